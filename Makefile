@@ -1,0 +1,8 @@
+# test: the whole verdict, from nothing. show: the worked cases of document 01, proved on the definitions.
+.PHONY: test show
+
+test:
+	rt ci
+
+show:
+	rt check cases

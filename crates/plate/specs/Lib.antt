@@ -1,0 +1,4 @@
+pub mod Program
+pub mod Writing
+pub mod Reading
+pub mod Plate

@@ -1,0 +1,4 @@
+pub mod Quoted
+pub mod Parts
+pub mod Text
+pub mod Number

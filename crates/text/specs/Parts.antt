@@ -1,0 +1,39 @@
+-- Parts of a text: lines parted by LF, fields parted by commas.
+use Prim.Native.Nat.{ℕ}
+use mathlib.Core.List.{List, [], _∷_, _++_}
+use mathlib.Core.Bool.{Bool, true, false, cond, _&&_}
+use lib.Dec.{eqb}
+
+abbrev pub LF : ℕ
+LF = 10
+
+abbrev pub comma : ℕ
+comma = 44
+
+abbrev pub onFirst : ℕ → List (List ℕ) → List (List ℕ)
+onFirst b [] = (b ∷ []) ∷ []
+onFirst b (p ∷ ps) = (b ∷ p) ∷ ps
+
+-- the parts between the bytes x; the last is what follows the last x
+unfoldable pub split : ℕ → List ℕ → List (List ℕ)
+split x [] = [] ∷ []
+split x (b ∷ s) = cond (eqb b x) ([] ∷ split x s) (onFirst b (split x s))
+
+-- parts with x between them
+unfoldable pub join : ℕ → List (List ℕ) → List ℕ
+join x [] = []
+join x (p ∷ []) = p
+join x (p ∷ q ∷ ps) = p ++ (x ∷ join x (q ∷ ps))
+
+-- the same bytes
+unfoldable pub same : List ℕ → List ℕ → Bool
+same [] [] = true
+same [] (b ∷ t) = false
+same (a ∷ s) [] = false
+same (a ∷ s) (b ∷ t) = eqb a b && same s t
+
+module _ {A : Type 0} where
+  -- every one passes the test
+  unfoldable pub all : (A → Bool) → List A → Bool
+  all p [] = true
+  all p (a ∷ s) = p a && all p s

@@ -1,0 +1,4 @@
+pub mod Statement
+pub mod State
+pub mod Perform
+pub mod Waiting

@@ -1,0 +1,23 @@
+-- Document 01, "Translation".
+use Prim.Native.Nat.{suc}
+use mathlib.Core.List.{List, [], _∷_, _++_}
+use lib.ListN.{length}
+use Rattle.guide.specs.Block.{Block, empty, does, ifThen, ifElse}
+use Rattle.guide.specs.Guide.{Guide}
+use Rattle.plate.specs.Program.{Instruction, statement, goto, ifSkip, Program}
+
+-- "Each `input`, `inputs`, `print` and `printex` becomes the instruction of its name, in the guide's order"
+-- "`if` becomes an if with a skip: the true block's instructions, plus one if there is an `else` line. That line becomes a goto whose skip
+-- is the else block's instructions. `fi` gives nothing."
+unfoldable pub translateBlock : Block → List Instruction
+translateBlock empty = []
+translateBlock (does x rest) = statement x ∷ translateBlock rest
+translateBlock (ifThen test t rest) =
+    ifSkip test (length (translateBlock t)) ∷ (translateBlock t ++ translateBlock rest)
+translateBlock (ifElse test t e rest) =
+    ifSkip test (suc (length (translateBlock t)))
+    ∷ (translateBlock t ++ (goto (length (translateBlock e)) ∷ (translateBlock e ++ translateBlock rest)))
+
+-- "The phrases go first"
+unfoldable pub translateGuide : Guide → Program
+translateGuide g = record { own = g .own; instructions = translateBlock (g .block) }

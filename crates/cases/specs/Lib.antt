@@ -1,2 +1,9 @@
 pub mod Row
-pub mod Computed
+pub mod Agree
+pub mod Opened
+pub mod Paper
+pub mod Machine
+pub mod Guides
+pub mod Listings
+pub mod Plates
+pub mod Table

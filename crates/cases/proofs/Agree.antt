@@ -8,21 +8,9 @@ use lib.Dec.{eqb}
 use borrow.Author.Tests.{eqb-true}
 use Rattle.causes.specs.Answers.{Answer, wrote, ended, refusal}
 use Rattle.text.specs.Parts.{same}
+use Rattle.text.proofs.Tests.{and-parts, same-equal}
 use Rattle.cases.specs.Row.{Row, _gives_, _counts_, Worth, returned, counted, computed, worked}
 use Rattle.cases.specs.Agree.{numbers, sameReturned, agrees, allAgree}
-
-both : (a b : Bool) → (a && b) ≡ true → (a ≡ true) × (b ≡ true)
-both true b e = (refl, e)
-both false b e = let z : _≡_ {A = ℕ} 0 1 = cc in absurd (omega arith)
-
-same-true : (s t : List ℕ) → same s t ≡ true → s ≡ t
-unfolding same
-same-true [] [] e = refl
-same-true [] (b ∷ t) e = let z : _≡_ {A = ℕ} 0 1 = cc in absurd (omega arith)
-same-true (a ∷ s) [] e = let z : _≡_ {A = ℕ} 0 1 = cc in absurd (omega arith)
-same-true (a ∷ s) (b ∷ t) e =
-    let h = both (eqb a b) (same s t) e in
-    ap₂ (λ (x : ℕ) (l : List ℕ). x ∷ l) (eqb-true a b (h .0)) (same-true s t (h .1))
 
 -- an answer's numbers tell it
 answer-same : (a b : Answer) → numbers a ≡ numbers b → a ≡ b
@@ -38,19 +26,19 @@ answer-same (refusal n p) (refusal m q) e = cc
 
 returned-same : (a b : Answer × List ℕ) → sameReturned a b ≡ true → returned a ≡ returned b
 returned-same a b e =
-    let h = both (same (numbers (a .0)) (numbers (b .0))) (same (a .1) (b .1)) e in
-    let p = answer-same (a .0) (b .0) (same-true (numbers (a .0)) (numbers (b .0)) (h .0)) in
-    let q = same-true (a .1) (b .1) (h .1) in
+    let h = and-parts (same (numbers (a .0)) (numbers (b .0))) (same (a .1) (b .1)) e in
+    let p = answer-same (a .0) (b .0) (same-equal (numbers (a .0)) (numbers (b .0)) (h .0)) in
+    let q = same-equal (a .1) (b .1) (h .1) in
     λ i. returned (p i, q i)
 
 pub all-agree : (rows : List Row) → allAgree rows ≡ true → computed rows ≡ worked rows
 unfolding allAgree computed worked
 all-agree [] e = refl
 all-agree ((c gives w) ∷ rows) e =
-    let h = both (sameReturned c w) (allAgree rows) e in
+    let h = and-parts (sameReturned c w) (allAgree rows) e in
     ap₂ (λ (x : Worth) (l : List Worth). x ∷ l) (returned-same c w (h .0)) (all-agree rows (h .1))
 all-agree ((c counts w) ∷ rows) e =
-    let h = both (eqb c w) (allAgree rows) e in
+    let h = and-parts (eqb c w) (allAgree rows) e in
     ap₂ (λ (x : Worth) (l : List Worth). x ∷ l) (ap counted (eqb-true c w (h .0))) (all-agree rows (h .1))
 
 -- two tables, one behind the other
@@ -58,5 +46,5 @@ pub agree-append : (r s : List Row) → allAgree r ≡ true → allAgree s ≡ t
 unfolding allAgree
 agree-append [] s e f = f
 agree-append (x ∷ r) s e f =
-    let h = both (agrees x) (allAgree r) e in
+    let h = and-parts (agrees x) (allAgree r) e in
     rw (h .0) (agree-append r s (h .1) f)

@@ -19,6 +19,7 @@ use Rattle.text.specs.Number.{natural, isNatural, valueFrom, register, constant
 use Rattle.transcript.specs.Statement.{Statement, input, inputs, print, printex, Test}
 use Rattle.transcript.specs.declared.Op.{Op}
 use Rattle.transcript.proofs.Valid.{StatementOk, ConstantOk, TestOk}
+use Rattle.text.proofs.Tests.{and-parts}
 use Rattle.text.proofs.Valid.{TextOk, TextsOk}
 use Rattle.lines.specs.declared.Form.{Form}
 use Rattle.lines.specs.declared.Form.the-variants.{Guide, Listing}
@@ -61,12 +62,6 @@ LineOk (faulty c) = Unit
 pub record ValidLine (l : Line) : Type 0 where
   pub ok : LineOk l
 
--- ---- tests
-
-both : (a b : Bool) → (a && b) ≡ true → (a ≡ true) × (b ≡ true)
-both true b e = (refl, e)
-both false b e = let z : _≡_ {A = ℕ} 0 1 = cc in absurd (omega arith)
-
 pub natural-most : (limit : ℕ) (s : List ℕ) (n : ℕ) → natural limit s ≡ some n → n ≤ limit
 unfolding natural
 natural-most limit s n e = go (isNatural s && leb (valueFrom 0 s) limit) refl e
@@ -74,7 +69,7 @@ natural-most limit s n e = go (isNatural s && leb (valueFrom 0 s) limit) refl e
     go : (b : Bool) → (isNatural s && leb (valueFrom 0 s) limit) ≡ b → cond b (some (valueFrom 0 s)) none ≡ some n → n ≤ limit
     go true t e =
         let v : valueFrom 0 s ≡ n = cc in
-        omega (arith, leb-true (valueFrom 0 s) limit (both (isNatural s) (leb (valueFrom 0 s) limit) t .1))
+        omega (arith, leb-true (valueFrom 0 s) limit (and-parts (isNatural s) (leb (valueFrom 0 s) limit) t .1))
     go false t e = let z : _≡_ {A = ℕ} 0 1 = cc in absurd (omega arith)
 
 negative-ok : (o : Option ℕ) (c : ℤ) → ((n : ℕ) → o ≡ some n → n ≤ 2147483648) → negative o ≡ some c → ConstantOk c
@@ -140,11 +135,11 @@ inputs-valid (r ∷ t ∷ options) = go (optionCount options) refl
         → ValidLine
         (cond v (given (register r) (λ r. valued (isText t && all isText options) (says (inputs r t options)))) (faulty Kind))
     go true v =
-        let c = both (leb 2 (length options)) (leb (length options) 8) v in
+        let c = and-parts (leb 2 (length options)) (leb (length options) 8) v in
         given-valid (register r) _
         (λ n e. valued-valid (isText t && all isText options)
         (λ h.
-        let k = both (isText t) (all isText options) h in
+        let k = and-parts (isText t) (all isText options) h in
         record {
           ok = (
             omega (arith, natural-most 31 r n e),

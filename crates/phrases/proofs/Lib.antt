@@ -1,1 +1,4 @@
 pub mod Valid
+pub mod Found
+pub mod Width
+pub mod BookValid

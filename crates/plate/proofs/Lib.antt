@@ -1,1 +1,9 @@
 pub mod Valid
+pub mod Readers
+pub mod Spelled
+pub mod Texts
+pub mod Constants
+pub mod Instructions
+pub mod OwnPhrases
+pub mod Programs
+pub mod RoundTrip

@@ -1,2 +1,5 @@
 pub mod Valid
 pub mod Cases
+pub mod Endings
+pub mod Steps
+pub mod Waiting

@@ -1,0 +1,4 @@
+pub mod Blocks
+pub mod Valid
+pub mod Accepted
+pub mod Guides

@@ -1,0 +1,80 @@
+-- A line of a listing that is written and read back is the same.
+use mathlib.Core.Path.{_≡_, refl, _∙_}
+use mathlib.Core.Bool.{true}
+use mathlib.Core.Option.{some}
+use native.Mathlib.Omega.{arith}
+use lib.ListN.{length}
+use borrow.Author.Tests.{le-leb}
+use Rattle.text.specs.Parts.{join, comma, same, all}
+use Rattle.text.specs.Text.{isText, textByte}
+use Rattle.text.proofs.Tests.{all-so}
+use Rattle.text.proofs.Decimals.{natural-read}
+use Rattle.text.proofs.Constants.{constant-read}
+use Rattle.text.proofs.Bytes.{text-bytes, decimalℕ-bytes, decimal-bytes}
+use Rattle.transcript.specs.Statement.{input, inputs, print, printex}
+use Rattle.transcript.specs.declared.Op.{Op}
+use Rattle.transcript.specs.declared.Op.the-variants.{Eq, Ne, Lt, Le, Gt, Ge}
+use Rattle.lines.specs.declared.Form.the-variants.{Listing}
+use Rattle.lines.specs.Line.{Line, phrase, says, ifLine, elseLine, fiLine, gotoLine, ifSkipLine, faulty, operator, kindLine, lineOf}
+use Rattle.lines.proofs.FieldsRead.{fields-read}
+use Rattle.listing.specs.Listing.{operatorWord}
+use Rattle.listing.proofs.ListingLines.{lineFields, ListingLineOk}
+
+operator-read : (o : Op) → operator (operatorWord o) ≡ some o
+unfolding operator same
+operator-read Eq = refl
+operator-read Ne = refl
+operator-read Lt = refl
+operator-read Le = refl
+operator-read Gt = refl
+operator-read Ge = refl
+
+operator-bytes : (o : Op) → all textByte (operatorWord o) ≡ true
+unfolding all
+operator-bytes Eq = refl
+operator-bytes Ne = refl
+operator-bytes Lt = refl
+operator-bytes Le = refl
+operator-bytes Gt = refl
+operator-bytes Ge = refl
+
+-- the fields have only bytes of texts: allowed, and no comma
+pub fields-bytes : (l : Line) → ListingLineOk l → all (all textByte) (lineFields l) ≡ true
+unfolding all
+fields-bytes (phrase t) h = rw (text-bytes t h)
+fields-bytes (says (input r t)) h = rw (decimalℕ-bytes r, text-bytes t (h .1))
+fields-bytes (says (inputs r t os)) h =
+    rw (decimalℕ-bytes r, text-bytes t (h .1), all-so isText (all textByte) text-bytes os (h .4))
+fields-bytes (says (print t)) h = rw (text-bytes t h)
+fields-bytes (says (printex t)) h = rw (text-bytes t h)
+fields-bytes (gotoLine k) h = rw (decimalℕ-bytes k)
+fields-bytes (ifSkipLine t k) h =
+    rw (decimalℕ-bytes (t .register), operator-bytes (t .op), decimal-bytes (t .constant), decimalℕ-bytes k)
+fields-bytes (ifLine t) h = absurd h
+fields-bytes elseLine h = absurd h
+fields-bytes fiLine h = absurd h
+fields-bytes (faulty c) h = absurd h
+
+pub line-read : (l : Line) → ListingLineOk l → lineOf Listing (join comma (lineFields l)) ≡ l
+unfolding kindLine same
+line-read (phrase t) h = fields-read Listing _ _ (fields-bytes (phrase t) h) ∙ rw h
+line-read (says (input r t)) h =
+    fields-read Listing _ _ (fields-bytes (says (input r t)) h) ∙ rw (natural-read 31 r (omega arith), h .1)
+line-read (says (inputs r t os)) h =
+    fields-read Listing _ _ (fields-bytes (says (inputs r t os)) h)
+    ∙ rw (le-leb 2 (length os) (h .2), le-leb (length os) 8 (h .3), natural-read 31 r (omega arith), h .1, h .4)
+line-read (says (print t)) h = fields-read Listing _ _ (fields-bytes (says (print t)) h) ∙ rw h
+line-read (says (printex t)) h = fields-read Listing _ _ (fields-bytes (says (printex t)) h) ∙ rw h
+line-read (gotoLine k) h = fields-read Listing _ _ (fields-bytes (gotoLine k) h) ∙ rw (natural-read 511 k (omega arith))
+line-read (ifSkipLine t k) h =
+    fields-read Listing _ _ (fields-bytes (ifSkipLine t k) h)
+    ∙ rw (
+      natural-read 31 (t .register) (omega arith),
+      operator-read (t .op),
+      constant-read (t .constant) (h .0 .1),
+      natural-read 511 k (omega arith),
+    )
+line-read (ifLine t) h = absurd h
+line-read elseLine h = absurd h
+line-read fiLine h = absurd h
+line-read (faulty c) h = absurd h

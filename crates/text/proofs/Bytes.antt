@@ -1,0 +1,56 @@
+-- The bytes of texts and of written numbers: allowed, no comma and no LF.
+use Prim.Native.Nat.{ℕ, suc, _≤_}
+use mathlib.Core.Path.{_≡_, refl}
+use mathlib.Core.Bool.{true, false}
+use native.Mathlib.Omega.{arith}
+use lib.ListN.{length}
+use lib.Dec.{leb, eqb}
+use lib.IntN.{ℤ, pos, negsuc}
+use borrow.Author.Tests.{leb-true, le-leb, ne-eqb}
+use Rattle.text.specs.Parts.{all, LF, comma}
+use Rattle.text.specs.Text.{Text, allowed, textByte, textSize, isText}
+use Rattle.text.specs.Number.{isDigit, decimalℕ, decimal, minus}
+use Rattle.text.proofs.Tests.{and-parts, all-cons, all-so}
+use Rattle.text.proofs.Splits.{other}
+use Rattle.text.proofs.Decimals.{digit-bounds, natural-digits, decimalℕ-natural}
+use Rattle.text.proofs.Valid.{TextOk}
+
+module _ (b : ℕ) where
+  digit-text : isDigit b ≡ true → textByte b ≡ true
+  digit-text h =
+      let l = digit-bounds b h in
+      let z : eqb b comma ≡ false = ne-eqb b comma (λ e. omega arith) in
+      rw (le-leb 32 b (omega arith), le-leb b 126 (omega arith), z)
+
+  pub text-allowed : textByte b ≡ true → allowed b ≡ true
+  text-allowed h = and-parts (allowed b) (other comma b) h .0
+
+  pub text-no-comma : textByte b ≡ true → other comma b ≡ true
+  text-no-comma h = and-parts (allowed b) (other comma b) h .1
+
+  pub allowed-no-LF : allowed b ≡ true → other LF b ≡ true
+  allowed-no-LF h =
+      let l = leb-true 32 b (and-parts (leb 32 b) (leb b 126) h .0) in
+      rw (ne-eqb b LF (λ e. omega arith))
+
+pub text-no-LF : (b : ℕ) → textByte b ≡ true → other LF b ≡ true
+text-no-LF b h = allowed-no-LF b (text-allowed b h)
+
+-- a text has only such bytes, 1 to 64 of them
+pub text-bytes : (t : Text) → TextOk t → all textByte t ≡ true
+unfolding isText
+text-bytes t h = and-parts (textSize t) (all textByte t) h .1
+
+pub text-size : (t : Text) → TextOk t → (1 ≤ length t) × (length t ≤ 64)
+unfolding isText
+text-size t h =
+    let k = and-parts (leb 1 (length t)) (leb (length t) 64) (and-parts (textSize t) (all textByte t) h .0) in
+    (leb-true 1 (length t) (k .0), leb-true (length t) 64 (k .1))
+
+pub decimalℕ-bytes : (n : ℕ) → all textByte (decimalℕ n) ≡ true
+decimalℕ-bytes n = all-so isDigit textByte digit-text (decimalℕ n) (natural-digits (decimalℕ n) (decimalℕ-natural n))
+
+pub decimal-bytes : (c : ℤ) → all textByte (decimal c) ≡ true
+unfolding decimal
+decimal-bytes (pos n) = decimalℕ-bytes n
+decimal-bytes (negsuc n) = all-cons textByte minus (decimalℕ (suc n)) refl (decimalℕ-bytes (suc n))

@@ -1,0 +1,4 @@
+pub mod Agreement
+pub mod Skips
+pub mod Counted
+pub mod Valid

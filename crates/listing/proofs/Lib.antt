@@ -6,3 +6,4 @@ pub mod Passing
 pub mod Skips
 pub mod Listings
 pub mod Sizes
+pub mod RoundTrips

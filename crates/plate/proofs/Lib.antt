@@ -7,3 +7,4 @@ pub mod Instructions
 pub mod OwnPhrases
 pub mod Programs
 pub mod RoundTrip
+pub mod Sized

@@ -1,2 +1,3 @@
 pub mod Translation
 pub mod Call
+pub mod Agreement

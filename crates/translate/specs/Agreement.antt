@@ -1,0 +1,58 @@
+-- Demand 3: what is claimed of a guide, the plate that the translation makes of it, a list of answers, a scratch and a transcript buffer.
+use Prim.Native.Nat.{ℕ, _≤_, _<_}
+use mathlib.Core.Path.{_≡_}
+use mathlib.Core.List.{List, _++_}
+use mathlib.Core.Logic.{_↔_}
+use lib.ListN.{length, drop}
+use lib.IntN.{ℤ}
+use Rattle.causes.specs.Answers.{made, ended, refusal}
+use Rattle.causes.specs.Causes.{outcomeNumber}
+use Rattle.causes.specs.declared.Outcome.the-variants.{Waiting}
+use Rattle.text.specs.Text.{Text}
+use Rattle.phrases.specs.Book.{bookPhrases}
+use Rattle.transcript.specs.State.{State, start, transcriptBytes}
+use Rattle.transcript.specs.Perform.{Ending, outcomeOf, stateOf}
+use Rattle.transcript.specs.Waiting.{Unanswered}
+use Rattle.guide.specs.Guide.{Guide, guideOf}
+use Rattle.plate.specs.Program.{Program}
+use Rattle.plate.specs.Plate.{plateProgram}
+use Rattle.walk.specs.Walk.{walk}
+use Rattle.walk.specs.Call.{walkCall}
+use Rattle.run.specs.Call.{runCall}
+
+-- the walk of a guide on a list of answers
+abbrev pub theWalk : Guide → List ℤ → Ending
+theWalk g answers = walk (g .block) (start answers)
+
+-- its transcript
+abbrev pub theTranscript : Guide → List ℤ → List ℕ
+theTranscript g answers = transcriptBytes (stateOf (theWalk g answers) .transcript)
+
+pub record Agreement (book guide plate : List ℕ) (answers : List ℤ) (scratch : ℕ) (buffer : List ℕ) : Type 0 where
+  -- what the book, the guide and the plate hold
+  pub phrases : List Text
+  pub g : Guide
+  pub p : Program
+  pub book-holds : bookPhrases book ≡ made phrases
+  pub guide-holds : guideOf phrases guide ≡ made g
+  pub plate-holds : plateProgram phrases plate ≡ made p
+  -- "running P with B on A gives what document 01's walk of G on A gives": the answer and the buffer
+  pub same : runCall plate book answers scratch buffer ≡ walkCall guide book answers buffer
+  -- "The run is refused exactly when the walk's transcript is longer than the buffer, with cause 11 and the buffer as it was."
+  pub too-long : length buffer < length (theTranscript g answers) → runCall plate book answers scratch buffer ≡ (refusal 11 0, buffer)
+  -- "Otherwise the run's transcript is the walk's .. at the front of the buffer, whose other bytes stay. Outcome, answers taken and
+  -- steps are then the walk's too."
+  pub otherwise : length (theTranscript g answers) ≤ length buffer
+      → runCall plate book answers scratch buffer
+      ≡ (
+        ended
+            (length (theTranscript g answers))
+            (outcomeNumber (outcomeOf (theWalk g answers)))
+            (stateOf (theWalk g answers) .taken)
+            (stateOf (theWalk g answers) .steps),
+        theTranscript g answers ++ drop (length (theTranscript g answers)) buffer,
+      )
+  -- "The steps are at most the instructions on P."
+  pub steps : stateOf (theWalk g answers) .steps ≤ length (p .instructions)
+  -- "it waits exactly when the walk writes a question's line and finds no answer left for it"
+  pub waits : (outcomeOf (theWalk g answers) ≡ Waiting) ↔ Unanswered (stateOf (theWalk g answers))

@@ -106,6 +106,9 @@ guides =
     ++ guideRefused (bytes "print,a\nphrase,\n") [] 5 2
     ++ refuses (translateCall (phraseLines 32) []) 11 0
     ++ guideRefused (phraseLines 33) [] 6 33
+    -- own phrases go first, and a text that is one is written as a phrase
+    ++ writes (translateCall (bytes "phrase,ok\nprint,ok\n") []) (hex "837EB0600A80")
+    ++ writes (translateCall (bytes "phrase,ok\nprint,ok\nprint,a\n") (bytes "a\n")) (hex "837EB06012AA00")
     -- 7: else or fi without its if, second else, 17th level, if left open; 4 before 7
     ++ guideRefused (bytes "print,a\nelse\n") [] 7 2
     ++ guideRefused (bytes "print,a\nfi\n") [] 7 2

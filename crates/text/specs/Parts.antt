@@ -1,5 +1,5 @@
 -- Parts of a text: lines parted by LF, fields parted by commas.
-use Prim.Native.Nat.{ℕ}
+use Prim.Native.Nat.{ℕ, suc}
 use mathlib.Core.List.{List, [], _∷_, _++_}
 use mathlib.Core.Bool.{Bool, true, false, cond, _&&_}
 use lib.Dec.{eqb}
@@ -24,6 +24,11 @@ unfoldable pub join : ℕ → List (List ℕ) → List ℕ
 join x [] = []
 join x (p ∷ []) = p
 join x (p ∷ q ∷ ps) = p ++ (x ∷ join x (q ∷ ps))
+
+-- how many bytes stand before the first x; all of them where there is none
+unfoldable pub untilByte : ℕ → List ℕ → ℕ
+untilByte x [] = 0
+untilByte x (b ∷ s) = cond (eqb b x) 0 (suc (untilByte x s))
 
 -- the same bytes
 unfoldable pub same : List ℕ → List ℕ → Bool

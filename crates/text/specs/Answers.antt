@@ -1,0 +1,16 @@
+-- The answers of the readers of numbers, for the numbers that they find.
+use Prim.Native.Nat.{ℕ}
+use mathlib.Core.Option.{Option, none, some}
+use lib.IntN.{ℤ}
+use Rattle.text.specs.declared.Natural.{Natural}
+use Rattle.text.specs.declared.Natural.the-variants as natural
+use Rattle.text.specs.declared.Constant.{Constant}
+use Rattle.text.specs.declared.Constant.the-variants as constant
+
+abbrev pub naturalAnswer : Option ℕ → Natural
+naturalAnswer none = natural.Wrong
+naturalAnswer (some n) = natural.Is n
+
+abbrev pub constantAnswer : Option ℤ → Constant
+constantAnswer none = constant.Wrong
+constantAnswer (some c) = constant.Is c

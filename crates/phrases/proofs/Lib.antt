@@ -1,4 +1,4 @@
 pub mod Valid
-pub mod Found
+pub mod Stands
 pub mod Width
 pub mod BookValid

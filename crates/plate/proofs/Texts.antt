@@ -16,7 +16,7 @@ use Rattle.phrases.specs.Phrases.{Phrases, Where, inBook, inOwn, nowhere, find,
 use Rattle.phrases.proofs.Valid.{PhrasesOk, BookOk}
 use Rattle.text.proofs.Tests.{and-parts}
 use Rattle.phrases.proofs.Width.{width-enough}
-use Rattle.phrases.proofs.Found.{Stands, Finds, find-stands, new-found, phrase-is-text, found-in-own, found-in-book}
+use Rattle.phrases.proofs.Stands.{Stands, Finds, find-stands, new-found, phrase-is-text, found-in-own, found-in-book}
 use Rattle.plate.specs.Writing.{ownBit, textBitsAt, textBits, textsBits}
 use Rattle.plate.specs.Plate.{phraseAt, phraseBy, phrase, isTextCode, textBy, text}
 use Rattle.plate.proofs.Readers.{

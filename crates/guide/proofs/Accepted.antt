@@ -9,7 +9,7 @@ use lib.ListN.{length, drop}
 use Rattle.causes.specs.Answers.{made}
 use Rattle.text.specs.Text.{Text}
 use Rattle.phrases.proofs.Valid.{PhrasesOk}
-use Rattle.transcript.specs.Statement.{Test}
+use Rattle.transcript.specs.declared.Test.{Test}
 use Rattle.lines.specs.declared.Form.the-variants.{Guide as aGuide}
 use Rattle.lines.specs.Line.{Line, phrase, says, ifLine, elseLine, fiLine, gotoLine, ifSkipLine, faulty}
 use Rattle.lines.specs.Check.{Open, Seen, nothingSeen, roomCause, elseCause, fiCause, causeOf, turn, next, Accepted, accept}

@@ -2,7 +2,7 @@
 use mathlib.Core.Path.{_≡_, refl, sym, _∙_, ap, subst}
 use mathlib.Core.List.{List, [], _∷_, _++_, append-assoc, append-nil}
 use Rattle.lines.specs.Line.{Line, phrase, says, ifLine, elseLine, fiLine, gotoLine, ifSkipLine, faulty}
-use Rattle.transcript.specs.Statement.{Test}
+use Rattle.transcript.specs.declared.Test.{Test}
 use Rattle.guide.specs.Block.{
   Block,
   empty,

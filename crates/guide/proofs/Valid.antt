@@ -1,6 +1,6 @@
 -- Blocks whose statements and tests meet the rules: those that `parse` makes of valid lines.
 use mathlib.Core.List.{List, [], _∷_}
-use Rattle.transcript.specs.Statement.{Test}
+use Rattle.transcript.specs.declared.Test.{Test}
 use Rattle.transcript.proofs.Valid.{StatementOk, TestOk}
 use Rattle.lines.specs.Line.{Line, phrase, says, ifLine, elseLine, fiLine, gotoLine, ifSkipLine, faulty}
 use Rattle.lines.proofs.Valid.{ValidLine}

@@ -1,7 +1,8 @@
 -- Document 01, "Walk": the blocks of a guide.
 use Prim.Native.Nat.{ℕ}
 use mathlib.Core.List.{List, [], _∷_}
-use Rattle.transcript.specs.Statement.{Statement, Test}
+use Rattle.transcript.specs.Statement.{Statement}
+use Rattle.transcript.specs.declared.Test.{Test}
 use Rattle.lines.specs.Line.{Line, phrase, says, ifLine, elseLine, fiLine, gotoLine, ifSkipLine, faulty}
 
 -- A block is empty, or it is its first statement and the rest of the block.

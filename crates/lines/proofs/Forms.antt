@@ -9,7 +9,8 @@ use Rattle.text.specs.Quoted.{bytes}
 use Rattle.text.specs.Parts.{split, comma, same, all}
 use Rattle.text.specs.Text.{Text, allowed, isText}
 use Rattle.text.specs.Number.{register, constant, skip}
-use Rattle.transcript.specs.Statement.{print, printex, Test}
+use Rattle.transcript.specs.Statement.{print, printex}
+use Rattle.transcript.specs.declared.Test.{Test}
 use Rattle.lines.specs.declared.Form.{Form}
 use Rattle.lines.specs.declared.Form.the-variants.{Guide, Listing}
 use Rattle.lines.specs.Line.{

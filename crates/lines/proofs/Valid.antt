@@ -16,7 +16,8 @@ use Rattle.text.specs.Quoted.{bytes}
 use Rattle.text.specs.Parts.{split, comma, same, all}
 use Rattle.text.specs.Text.{Text, allowed, isText}
 use Rattle.text.specs.Number.{natural, isNatural, valueFrom, register, constant, skip, positive, negative, minus}
-use Rattle.transcript.specs.Statement.{Statement, input, inputs, print, printex, Test}
+use Rattle.transcript.specs.Statement.{Statement, input, inputs, print, printex}
+use Rattle.transcript.specs.declared.Test.{Test}
 use Rattle.transcript.specs.declared.Op.{Op}
 use Rattle.transcript.proofs.Valid.{StatementOk, ConstantOk, TestOk}
 use Rattle.text.proofs.Tests.{and-parts}

@@ -11,7 +11,8 @@ use Rattle.text.specs.Quoted.{bytes}
 use Rattle.text.specs.Parts.{split, comma, same, all}
 use Rattle.text.specs.Text.{Text, allowed, isText}
 use Rattle.text.specs.Number.{register, constant, skip}
-use Rattle.transcript.specs.Statement.{Statement, input, inputs, print, printex, Test}
+use Rattle.transcript.specs.Statement.{Statement, input, inputs, print, printex}
+use Rattle.transcript.specs.declared.Test.{Test}
 use Rattle.transcript.specs.declared.Op.{Op}
 use Rattle.transcript.specs.declared.Op.the-variants.{Eq, Ne, Lt, Le, Gt, Ge}
 use Rattle.lines.specs.declared.Form.{Form}

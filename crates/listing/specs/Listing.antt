@@ -11,7 +11,8 @@ use Rattle.text.specs.Quoted.{bytes}
 use Rattle.text.specs.Parts.{join, comma, LF}
 use Rattle.text.specs.Text.{Text}
 use Rattle.text.specs.Number.{decimal, decimalℕ}
-use Rattle.transcript.specs.Statement.{Statement, input, inputs, print, printex, Test}
+use Rattle.transcript.specs.Statement.{Statement, input, inputs, print, printex}
+use Rattle.transcript.specs.declared.Test.{Test}
 use Rattle.transcript.specs.declared.Op.{Op}
 use Rattle.transcript.specs.declared.Op.the-variants.{Eq, Ne, Lt, Le, Gt, Ge}
 use Rattle.lines.specs.declared.Form.the-variants.{Listing}

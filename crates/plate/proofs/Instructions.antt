@@ -12,7 +12,8 @@ use Rattle.bits.specs.Bits.{bitsOf}
 use Rattle.text.specs.Text.{Text}
 use Rattle.text.proofs.Valid.{TextOk, TextsOk}
 use Rattle.phrases.specs.Phrases.{Phrases}
-use Rattle.transcript.specs.Statement.{input, inputs, print, printex, Test}
+use Rattle.transcript.specs.Statement.{input, inputs, print, printex}
+use Rattle.transcript.specs.declared.Test.{Test}
 use Rattle.transcript.specs.declared.Op.{Op}
 use Rattle.transcript.specs.declared.Op.the-variants.{Eq, Ne, Lt, Le, Gt, Ge}
 use Rattle.transcript.proofs.Valid.{TestOk}

@@ -2,7 +2,8 @@
 use Prim.Native.Nat.{ℕ}
 use mathlib.Core.List.{List}
 use Rattle.text.specs.Text.{Text}
-use Rattle.transcript.specs.Statement.{Statement, Test}
+use Rattle.transcript.specs.Statement.{Statement}
+use Rattle.transcript.specs.declared.Test.{Test}
 
 pub data Instruction : Type 0 where
   -- input, inputs, print or printex

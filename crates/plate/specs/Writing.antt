@@ -11,7 +11,8 @@ use Rattle.causes.specs.declared.Cause.the-variants.{PlateTooLong}
 use Rattle.bits.specs.Bits.{bitsOf, pack}
 use Rattle.text.specs.Text.{Text}
 use Rattle.phrases.specs.Phrases.{Phrases, Where, inBook, inOwn, nowhere, find, width}
-use Rattle.transcript.specs.Statement.{Statement, input, inputs, print, printex, Test}
+use Rattle.transcript.specs.Statement.{Statement, input, inputs, print, printex}
+use Rattle.transcript.specs.declared.Test.{Test}
 use Rattle.transcript.specs.declared.Op.{Op}
 use Rattle.transcript.specs.declared.Op.the-variants.{Eq, Ne, Lt, Le, Gt, Ge}
 use Rattle.plate.specs.Program.{Instruction, statement, goto, ifSkip, Program}

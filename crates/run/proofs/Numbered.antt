@@ -6,7 +6,8 @@ use mathlib.Core.List.{List, _∷_}
 use mathlib.Core.Bool.{Bool, true, false, cond}
 use lib.ListN.{length, getD, drop}
 use lib.Seq.{drop-cons, drop-drop, drop-length}
-use Rattle.transcript.specs.Statement.{Statement, Test}
+use Rattle.transcript.specs.Statement.{Statement}
+use Rattle.transcript.specs.declared.Test.{Test}
 use Rattle.transcript.specs.State.{State, step}
 use Rattle.transcript.specs.Perform.{Ending, goesOn, andThen, perform, holds}
 use Rattle.plate.specs.Program.{Instruction, statement, goto, ifSkip}

@@ -6,7 +6,8 @@ use lib.IntN.{ℤ}
 use lib.Signed.{mag}
 use Rattle.text.specs.Text.{Text}
 use Rattle.text.proofs.Valid.{TextOk, TextsOk}
-use Rattle.transcript.specs.Statement.{Statement, input, inputs, print, printex, Test}
+use Rattle.transcript.specs.Statement.{Statement, input, inputs, print, printex}
+use Rattle.transcript.specs.declared.Test.{Test}
 
 abbrev pub StatementOk : Statement → Type 0
 StatementOk (input r t) = (r < 32) × TextOk t

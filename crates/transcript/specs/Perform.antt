@@ -9,7 +9,8 @@ use Rattle.causes.specs.Answers.{Answer, ended, Output}
 use Rattle.causes.specs.Causes.{outcomeNumber}
 use Rattle.causes.specs.declared.Outcome.{Outcome}
 use Rattle.causes.specs.declared.Outcome.the-variants.{Verdict, End, Waiting, Outside}
-use Rattle.transcript.specs.Statement.{Statement, input, inputs, print, printex, Test, compares}
+use Rattle.transcript.specs.Statement.{Statement, input, inputs, print, printex, compares}
+use Rattle.transcript.specs.declared.Test.{Test}
 use Rattle.transcript.specs.State.{
   TranscriptLine,
   asked,

@@ -18,12 +18,6 @@ pub data Statement : Type 0 where
   -- `printex,TEXT`: shows a verdict and ends
   printex : Text → Statement
 
--- the R, OP and C of an if
-pub record Test : Type 0 where
-  pub register : ℕ
-  pub op : Op
-  pub constant : ℤ
-
 -- "OP is eq, ne, lt, le, gt or ge, comparing R's value with C"
 abbrev pub compares : Op → ℤ → ℤ → Bool
 compares Eq value c = leZ value c && leZ c value

@@ -10,3 +10,10 @@ pub enum Op {
     Gt,
     Ge,
 }
+
+// The R, OP and C of an if.
+pub struct Test {
+    pub register: usize,
+    pub op: Op,
+    pub constant: i32,
+}

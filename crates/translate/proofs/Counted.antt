@@ -6,7 +6,7 @@ use mathlib.Core.List.{List, [], _∷_, _++_}
 use lib.ListN.{length, length-append}
 use Rattle.causes.specs.Answers.{made}
 use Rattle.text.specs.Text.{Text}
-use Rattle.transcript.specs.Statement.{Test}
+use Rattle.transcript.specs.declared.Test.{Test}
 use Rattle.lines.specs.declared.Form.the-variants.{Guide as aGuide}
 use Rattle.lines.specs.Line.{Line, phrase, says, ifLine, elseLine, fiLine, gotoLine, ifSkipLine, faulty}
 use Rattle.lines.specs.Check.{Seen, nothingSeen, next, checkFrom, Accepted, accept}

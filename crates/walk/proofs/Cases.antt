@@ -9,7 +9,8 @@ use Rattle.text.specs.Parts.{join}
 use Rattle.text.specs.Number.{digits, decimal}
 use Rattle.transcript.specs.declared.Op.{Op}
 use Rattle.transcript.specs.declared.Op.the-variants.{Eq, Lt, Ge}
-use Rattle.transcript.specs.Statement.{input, print, printex, Test}
+use Rattle.transcript.specs.Statement.{input, print, printex}
+use Rattle.transcript.specs.declared.Test.{Test}
 use Rattle.transcript.specs.State.{start, lineBytes, transcriptBytes}
 use Rattle.transcript.specs.Perform.{perform, holds, report}
 use Rattle.guide.specs.Block.{Block, empty, does, ifThen, ifElse}

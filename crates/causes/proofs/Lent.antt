@@ -21,11 +21,12 @@ pub record Wrote (r : Result (List ℕ)) (buffer : List ℕ) (n : ℕ) (after : 
   pub size : n ≡ length result
   pub laid : after ≡ result ++ drop (length result) buffer
 
+refusal-no-length : {number place n : ℕ} → refusal number place ≡ wrote n → ⊥
+refusal-no-length e = let z : _≡_ {A = ℕ} 0 1 = cc in omega arith
+
 pub written-wrote : (r : Result (List ℕ)) (buffer after : List ℕ) (n : ℕ) → written r buffer ≡ (wrote n, after) → Wrote r buffer n after
 written-wrote (refused cause place) buffer after n e =
-    let k : refusing cause place ≡ wrote n = ap (λ (p : Answer × List ℕ). p .0) e in
-    let z : _≡_ {A = ℕ} 0 1 = cc in
-    absurd (omega arith)
+    absurd (refusal-no-length (ap (λ (p : Answer × List ℕ). p .0) e))
 written-wrote (made bs) buffer after n e = go (leb (length bs) (length buffer)) e
   where
     go : (v : Bool)
@@ -35,10 +36,7 @@ written-wrote (made bs) buffer after n e = go (leb (length bs) (length buffer)) 
         let k : wrote (length bs) ≡ wrote n = ap (λ (p : Answer × List ℕ). p .0) e in
         let l : bs ++ drop (length bs) buffer ≡ after = ap (λ (p : Answer × List ℕ). p .1) e in
         record { result = bs; makes = refl; size = cc; laid = cc }
-    go false e =
-        let k : refusing TooShort 0 ≡ wrote n = ap (λ (p : Answer × List ℕ). p .0) e in
-        let z : _≡_ {A = ℕ} 0 1 = cc in
-        absurd (omega arith)
+    go false e = absurd (refusal-no-length (ap (λ (p : Answer × List ℕ). p .0) e))
 
 -- where there is room, the bytes and their length
 pub written-fits : (r : Result (List ℕ)) (bs buffer : List ℕ) → r ≡ made bs → length bs ≤ length buffer

@@ -15,10 +15,13 @@ use Rattle.transcript.specs.Statement.{input, inputs, print, printex}
 use Rattle.transcript.specs.declared.Op.{Op}
 use Rattle.transcript.specs.declared.Op.the-variants.{Eq, Ne, Lt, Le, Gt, Ge}
 use Rattle.lines.specs.declared.Form.the-variants.{Listing}
-use Rattle.lines.specs.Line.{Line, phrase, says, ifLine, elseLine, fiLine, gotoLine, ifSkipLine, faulty, operator, kindLine, lineOf}
+use Rattle.lines.specs.Line.{Line, phrase, says, ifLine, elseLine, fiLine, gotoLine, ifSkipLine, faulty}
+use Rattle.lines.specs.Line.{operator, kindLine, fieldsLine, lineOf}
 use Rattle.lines.proofs.FieldsRead.{fields-read}
+use Rattle.lines.proofs.Valid.{LineOk}
+use Rattle.lines.proofs.Passes.{NoFault}
 use Rattle.listing.specs.Listing.{operatorWord}
-use Rattle.listing.proofs.ListingLines.{lineFields, ListingLineOk}
+use Rattle.listing.proofs.ListingLines.{lineFields}
 
 operator-read : (o : Op) → operator (operatorWord o) ≡ some o
 unfolding operator same
@@ -39,7 +42,7 @@ operator-bytes Gt = refl
 operator-bytes Ge = refl
 
 -- the fields have only bytes of texts: allowed, and no comma
-pub fields-bytes : (l : Line) → ListingLineOk l → all (all textByte) (lineFields l) ≡ true
+pub fields-bytes : (l : Line) → LineOk Listing l → all (all textByte) (lineFields l) ≡ true
 unfolding all
 fields-bytes (phrase t) h = rw (text-bytes t h)
 fields-bytes (says (input r t)) h = rw (decimalℕ-bytes r, text-bytes t (h .1))
@@ -53,28 +56,29 @@ fields-bytes (ifSkipLine t k) h =
 fields-bytes (ifLine t) h = absurd h
 fields-bytes elseLine h = absurd h
 fields-bytes fiLine h = absurd h
-fields-bytes (faulty c) h = absurd h
+fields-bytes (faulty c) h = refl
 
-pub line-read : (l : Line) → ListingLineOk l → lineOf Listing (join comma (lineFields l)) ≡ l
+-- the fields make the line
+kind-read : (l : Line) → LineOk Listing l → NoFault l → fieldsLine Listing (lineFields l) ≡ l
 unfolding kindLine same
-line-read (phrase t) h = fields-read Listing _ _ (fields-bytes (phrase t) h) ∙ rw h
-line-read (says (input r t)) h =
-    fields-read Listing _ _ (fields-bytes (says (input r t)) h) ∙ rw (natural-read 31 r (omega arith), h .1)
-line-read (says (inputs r t os)) h =
-    fields-read Listing _ _ (fields-bytes (says (inputs r t os)) h)
-    ∙ rw (le-leb 2 (length os) (h .2), le-leb (length os) 8 (h .3), natural-read 31 r (omega arith), h .1, h .4)
-line-read (says (print t)) h = fields-read Listing _ _ (fields-bytes (says (print t)) h) ∙ rw h
-line-read (says (printex t)) h = fields-read Listing _ _ (fields-bytes (says (printex t)) h) ∙ rw h
-line-read (gotoLine k) h = fields-read Listing _ _ (fields-bytes (gotoLine k) h) ∙ rw (natural-read 511 k (omega arith))
-line-read (ifSkipLine t k) h =
-    fields-read Listing _ _ (fields-bytes (ifSkipLine t k) h)
-    ∙ rw (
+kind-read (phrase t) h f = rw h
+kind-read (says (input r t)) h f = rw (natural-read 31 r (omega arith), h .1)
+kind-read (says (inputs r t os)) h f =
+    rw (le-leb 2 (length os) (h .2), le-leb (length os) 8 (h .3), natural-read 31 r (omega arith), h .1, h .4)
+kind-read (says (print t)) h f = rw h
+kind-read (says (printex t)) h f = rw h
+kind-read (gotoLine k) h f = rw (natural-read 511 k (omega arith))
+kind-read (ifSkipLine t k) h f =
+    rw (
       natural-read 31 (t .register) (omega arith),
       operator-read (t .op),
       constant-read (t .constant) (h .0 .1),
       natural-read 511 k (omega arith),
     )
-line-read (ifLine t) h = absurd h
-line-read elseLine h = absurd h
-line-read fiLine h = absurd h
-line-read (faulty c) h = absurd h
+kind-read (ifLine t) h f = absurd h
+kind-read elseLine h f = absurd h
+kind-read fiLine h f = absurd h
+kind-read (faulty c) h f = absurd (f c refl)
+
+pub line-read : (l : Line) → LineOk Listing l → NoFault l → lineOf Listing (join comma (lineFields l)) ≡ l
+line-read l h f = fields-read Listing (lineFields l) (fields-bytes l h) ∙ kind-read l h f

@@ -6,90 +6,82 @@ use mathlib.Core.List.{List, [], map}
 use mathlib.Core.Option.{Option, none, some}
 use native.Mathlib.Omega.{arith}
 use lib.ListN.{length}
-use Rattle.causes.specs.Answers.{Result, made, refused, _>>=_}
+use Rattle.causes.specs.Answers.{made}
+use Rattle.causes.proofs.Results.{never, made-from}
 use Rattle.text.specs.Parts.{split, LF}
 use Rattle.text.specs.Text.{Text}
 use Rattle.text.proofs.Splits.{join-split}
 use Rattle.lines.specs.declared.Form.the-variants.{Listing}
-use Rattle.lines.specs.Check.{Seen, nothingSeen, linesOf, Accepted, accept}
-use Rattle.lines.proofs.Checks.{Passed, accept-read, accept-passed}
+use Rattle.lines.specs.Check.{nothingSeen, linesOf, Accepted, accept}
+use Rattle.lines.proofs.Valid.{LinesOk}
+use Rattle.lines.proofs.Passes.{Passes}
+use Rattle.lines.proofs.Accepts.{Accepts, accept-read, accepts}
 use Rattle.plate.specs.Program.{Program}
 use Rattle.plate.proofs.Valid.{ProgramOk}
-use Rattle.listing.specs.Listing.{listingText, linesText, listingProgram, instructionsOf, firstPast, within, skipsWithin}
-use Rattle.listing.proofs.ListingLines.{lineFields, ListingLinesOk, programLines, program-fields, program-instructions, program-ok}
+use Rattle.listing.specs.Listing.{listingText, linesText, listingProgram, instructionsOf, firstPast, within}
+use Rattle.listing.proofs.ListingLines.{lineFields, programLines, program-fields, program-instructions, program-ok}
 use Rattle.listing.proofs.Texts.{lines-read, lines-written}
-use Rattle.listing.proofs.Passing.{program-passes, Sorted, sorted}
+use Rattle.listing.proofs.Passing.{seen, program-passes, sorted}
 use Rattle.listing.proofs.Skips.{none-past, instructions-ok}
 
 -- ---- written, then read
 
--- the lines of a program's text
-text-lines : (book : List Text) (p : Program) → ProgramOk book p
-    → linesOf Listing (listingText p) ≡ programLines (p .own) (p .instructions)
-unfolding listingText
-text-lines book p h =
-    rw (← program-fields p)
-    (lines-read (programLines (p .own) (p .instructions))
-    (program-ok book [] (p .own) (p .instructions) (h .phrases) (h .instructions) (h .room)))
-
 pub listing-read : (book : List Text) (p : Program) → ProgramOk book p → length (listingText p) ≤ 327680
     → listingProgram book (listingText p) ≡ made p
-unfolding listingProgram
+unfolding listingProgram listingText
 listing-read book p h k =
-    let ls = text-lines book p h in
+    let end = seen (p .own) (length (p .instructions)) in
     let c = program-passes book 1 [] (p .own) (p .instructions) (h .phrases) (omega (arith, h .few)) (h .room) in
-    let a = accept-read Listing book (listingText p) (c .last) k (rw ls (c .passed)) in
+    let ok = program-ok book [] (p .own) (p .instructions) (h .phrases) (h .instructions) (h .room) in
+    let ls : linesOf Listing (listingText p) ≡ programLines (p .own) (p .instructions) =
+    rw (← program-fields p) (lines-read book 1 nothingSeen end (programLines (p .own) (p .instructions)) ok c) in
+    let a = accept-read Listing book (listingText p) end k (rw ls c) in
     let is = ap instructionsOf ls ∙ program-instructions (p .own) (p .instructions) in
-    rw (a, c .own-is, is, none-past (suc (length (p .own))) (p .instructions) (h .instructions))
+    rw (a, is, none-past (suc (length (p .own))) (p .instructions) (h .instructions))
 
 -- ---- read, then written
-
--- the program of lines that pass the check, if its skips are within it
-module _ (book : List Text) (s : List ℕ) (r : Seen) (o : Sorted book nothingSeen (linesOf Listing s) r) where
-  abbrev sorted-program : Program
-  sorted-program = record { own = o .own; instructions = o .instructions }
-
-  sorted-ok : (n : ℕ) → ListingLinesOk (linesOf Listing s) → firstPast n (o .instructions) ≡ none → ProgramOk book sorted-program
-  sorted-ok n h k =
-      record {
-        phrases = o .phrases;
-        few = omega (arith, o .few);
-        room = omega (arith, o .room);
-        instructions = instructions-ok (o .own) n (o .instructions) (subst ListingLinesOk (o .lines) h) k;
-      }
-
-  sorted-text : linesText (map lineFields (linesOf Listing s)) ≡ s → listingText sorted-program ≡ s
-  unfolding listingText
-  sorted-text h = ap linesText (sym (program-fields sorted-program) ∙ ap (map lineFields) (sym (o .lines))) ∙ h
 
 abbrev programOf : Accepted → Program
 programOf a = record { own = a .own; instructions = instructionsOf (a .lines) }
 
-accepted-program : (book : List Text) (s : List ℕ) (a : Accepted) (n : ℕ) → Passed Listing book s a
-    → firstPast n (instructionsOf (a .lines)) ≡ none → ProgramOk book (programOf a) × (listingText (programOf a) ≡ s)
-accepted-program book s a n c f =
-    let t = lines-written book (split LF s) 1 nothingSeen (c .seen) (c .checked) in
-    let o = sorted book 1 nothingSeen (c .seen) (linesOf Listing s) (t .0) (omega arith) (omega arith) (c .checked) in
-    let is = sym (program-instructions (o .own) (o .instructions)) ∙ ap instructionsOf (sym (o .lines) ∙ c .lines) in
-    subst (λ p. ProgramOk book p × (listingText p ≡ s)) (λ i. record { own = (o .all-own ∙ c .own) i; instructions = is i }) (
-      sorted-ok book s (c .seen) o n (t .0) (rw is f),
-      sorted-text book s (c .seen) o (t .1 ∙ join-split LF s),
-    )
+-- an accepted listing has the lines of its program
+accepted-lines : (book : List Text) (s : List ℕ) (a : Accepted) → Accepts Listing book s a
+    → (a .lines ≡ programLines (a .own) (instructionsOf (a .lines))) × (length (instructionsOf (a .lines)) ≤ 512)
+accepted-lines book s a c =
+    let o = sorted book (c .seen) 1 nothingSeen (a .lines) (c .valid) (c .passes) in
+    let own : o .own ≡ a .own = o .all-own ∙ sym (c .own) in
+    let is = sym (program-instructions (o .own) (o .instructions)) ∙ ap instructionsOf (sym (o .lines)) in
+    (o .lines ∙ (λ i. programLines (own i) (is i)), omega (arith, ap length is, o .counted, c .room))
+
+accepted-text : (book : List Text) (s : List ℕ) (a : Accepted) → Accepts Listing book s a → listingText (programOf a) ≡ s
+unfolding listingText
+accepted-text book s a c =
+    let passes = subst (Passes book 1 nothingSeen (c .seen)) (c .lines) (c .passes) in
+    ap linesText (sym (program-fields (programOf a)) ∙ ap (map lineFields) (sym (accepted-lines book s a c .0) ∙ c .lines))
+    ∙ lines-written book 1 nothingSeen (c .seen) (split LF s) passes
+    ∙ join-split LF s
+
+accepted-ok : (book : List Text) (s : List ℕ) (a : Accepted) (n : ℕ) → Accepts Listing book s a
+    → firstPast n (instructionsOf (a .lines)) ≡ none → ProgramOk book (programOf a)
+accepted-ok book s a n c f =
+    let l = accepted-lines book s a c in
+    record {
+      phrases = c .phrases;
+      few = c .few;
+      room = l .1;
+      instructions = instructions-ok (a .own) n (instructionsOf (a .lines)) (subst (LinesOk Listing) (l .0) (c .valid)) f;
+    }
 
 within-made : (o : Option ℕ) (p q : Program) → within o p ≡ made q → (o ≡ none) × (p ≡ q)
 within-made none p q h = (refl, cc)
-within-made (some n) p q h = let z : _≡_ {A = ℕ} 0 1 = cc in absurd (omega arith)
+within-made (some n) p q h = absurd (never h)
 
 pub listing-written : (book : List Text) (s : List ℕ) (p : Program) → listingProgram book s ≡ made p
     → ProgramOk book p × (listingText p ≡ s) × (length s ≤ 327680)
 unfolding listingProgram
-listing-written book s p h = go (accept Listing book s) refl h
-  where
-    go : (r : Result Accepted) → accept Listing book s ≡ r → (r >>= λ a. skipsWithin (programOf a)) ≡ made p
-        → ProgramOk book p × (listingText p ≡ s) × (length s ≤ 327680)
-    go (refused c n) e q = let z : _≡_ {A = ℕ} 0 1 = cc in absurd (omega arith)
-    go (made a) e q =
-        let c = accept-passed Listing book s a e in
-        let w = within-made (firstPast (suc (length (a .own))) (instructionsOf (a .lines))) (programOf a) p q in
-        let k = accepted-program book s a (suc (length (a .own))) c (w .0) in
-        rw (← w .1) (k .0, k .1, c .short)
+listing-written book s p h =
+    let m = made-from (accept Listing book s) _ p h in
+    let a = m .0 in
+    let c = accepts Listing book s a (m .1) in
+    let w = within-made (firstPast (suc (length (a .own))) (instructionsOf (a .lines))) (programOf a) p (m .2) in
+    rw (← w .1) (accepted-ok book s a (suc (length (a .own))) c (w .0), accepted-text book s a c, c .size)

@@ -14,11 +14,13 @@ use Rattle.text.proofs.Bytes.{text-size}
 use Rattle.transcript.specs.Statement.{input, inputs, print, printex}
 use Rattle.transcript.specs.declared.Op.{Op}
 use Rattle.transcript.specs.declared.Op.the-variants.{Eq, Ne, Lt, Le, Gt, Ge}
+use Rattle.lines.specs.declared.Form.the-variants.{Listing}
 use Rattle.lines.specs.Line.{Line, phrase, says, ifLine, elseLine, fiLine, gotoLine, ifSkipLine, faulty}
+use Rattle.lines.proofs.Valid.{LineOk, LinesOk}
 use Rattle.plate.specs.Program.{Program}
 use Rattle.plate.proofs.Valid.{ProgramOk}
 use Rattle.listing.specs.Listing.{operatorWord, linesText, listingText}
-use Rattle.listing.proofs.ListingLines.{lineFields, ListingLineOk, ListingLinesOk, programLines, program-fields, program-ok}
+use Rattle.listing.proofs.ListingLines.{lineFields, programLines, program-fields, program-ok}
 
 -- the bytes of fields, with a comma behind each
 abbrev size : List (List ℕ) → ℕ
@@ -44,7 +46,7 @@ operator-size Gt = refl
 operator-size Ge = refl
 
 -- the longest line is an inputs with 8 options: 6 + 2 + 9 * 64 bytes, and 11 commas
-line-size : (l : Line) → ListingLineOk l → size (lineFields l) ≤ 595
+line-size : (l : Line) → LineOk Listing l → size (lineFields l) ≤ 595
 line-size (phrase t) h = omega (arith, text-size t h)
 line-size (says (input r t)) h = omega (arith, decimalℕ-short 1 r (omega arith), text-size t (h .1))
 line-size (says (inputs r t os)) h = omega (arith, decimalℕ-short 1 r (omega arith), text-size t (h .1), texts-size os (h .4))
@@ -62,13 +64,13 @@ line-size (ifSkipLine t k) h =
 line-size (ifLine t) h = absurd h
 line-size elseLine h = absurd h
 line-size fiLine h = absurd h
-line-size (faulty c) h = absurd h
+line-size (faulty c) h = omega arith
 
-lines-size : (ls : List Line) → ListingLinesOk ls → length (linesText (map lineFields ls)) ≤ 596 * length ls
+lines-size : (ls : List Line) → LinesOk Listing ls → length (linesText (map lineFields ls)) ≤ 596 * length ls
 unfolding linesText
 lines-size [] h = omega arith
 lines-size (l ∷ ls) h =
-    simp length-append (omega (arith, join-size comma (lineFields l), line-size l (h .0), lines-size ls (h .1)))
+    simp length-append (omega (arith, join-size comma (lineFields l), line-size l (h .0 .ok), lines-size ls (h .1)))
 
 pub listing-short : (book : List Text) (p : Program) → ProgramOk book p → length (listingText p) ≤ 327680
 unfolding listingText

@@ -1,19 +1,20 @@
 -- A text that is spelled out, character by character up to ETX: written and read.
-use Prim.Native.Nat.{ℕ, zero, suc, _*_, _^_, _≤_, _<_}
+use Prim.Native.Nat.{ℕ, zero, suc, _*_, _^_, _<_}
 use mathlib.Core.Path.{_≡_, refl, ap}
 use mathlib.Core.List.{List, [], _∷_}
-use mathlib.Core.Bool.{Bool, true, false, not, _||_}
+use mathlib.Core.Bool.{Bool, true, false, _||_}
 use native.Mathlib.Omega.{arith}
 use lib.ListN.{length, length-append}
-use lib.Dec.{leb, eqb}
-use borrow.Author.Tests.{leb-true, eqb-true, ne-eqb}
+use lib.Dec.{eqb}
+use borrow.Author.Tests.{eqb-true, ne-eqb}
 use Rattle.bits.specs.Bits.{bitsOf}
 use Rattle.bits.proofs.Numbers.{length-bitsOf}
-use Rattle.text.specs.Parts.{all, comma}
-use Rattle.text.specs.Text.{Text, textByte, allowed, textSize, isText}
+use Rattle.text.specs.Parts.{all}
+use Rattle.text.specs.Text.{Text, textByte, textSize, isText}
 use Rattle.text.proofs.Valid.{TextOk}
 use Rattle.phrases.specs.Phrases.{isNew}
-use Rattle.text.proofs.Tests.{and-parts}
+use Rattle.text.proofs.Tests.{and-parts, in-range}
+use Rattle.text.proofs.Bytes.{text-allowed}
 use Rattle.plate.specs.Writing.{ETX, spelledBits}
 use Rattle.plate.specs.Reading.{Place, got}
 use Rattle.plate.specs.Plate.{upToETX, characters, spelled}
@@ -39,18 +40,13 @@ unfolding spelledBits
 length-spelled [] = length-bitsOf 7 ETX
 length-spelled (c ∷ t) = simp (length-append, length-bitsOf) (omega (arith, length-spelled t))
 
-pub byte-range : (c : ℕ) → textByte c ≡ true → (32 ≤ c) × (c ≤ 126)
-byte-range c h =
-    let range = and-parts (leb 32 c) (leb c 126) (and-parts (allowed c) (not (eqb c comma)) h .0) in
-    (leb-true 32 c (range .0), leb-true c 126 (range .1))
-
 takes-characters : (t : Text) → all textByte t ≡ true → (f : ℕ) → length t < f → Takes (characters f) (spelledBits t) t
 unfolding characters all spelledBits
 takes-characters t h zero k = absurd (omega arith)
 takes-characters [] h (suc f) k = takes-only _ (takes-judged _ _ (takes-number 7 ETX (omega arith)) refl) (takes-return [])
 takes-characters (c ∷ t) h (suc f) k =
     let good = and-parts (textByte c) (all textByte t) h in
-    let range = byte-range c (good .0) in
+    let range = in-range 32 c 126 (text-allowed c (good .0)) in
     let other : eqb c ETX ≡ false = ne-eqb c ETX (λ e. omega arith) in
     takes-then _
     (takes-judged (λ x. eqb x ETX || textByte x) _ (takes-number 7 c (omega (arith, range .1))) (rw other (good .0)))

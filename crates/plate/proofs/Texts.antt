@@ -14,7 +14,7 @@ use Rattle.text.specs.Text.{Text, isText}
 use Rattle.text.proofs.Valid.{TextOk, TextsOk}
 use Rattle.phrases.specs.Phrases.{Phrases, Where, inBook, inOwn, nowhere, find, isNowhere, width}
 use Rattle.phrases.proofs.Valid.{PhrasesOk, BookOk}
-use Rattle.text.proofs.Tests.{and-parts}
+use Rattle.text.proofs.Tests.{all-cons, all-first, all-rest}
 use Rattle.phrases.proofs.Width.{width-enough}
 use Rattle.phrases.proofs.Stands.{Stands, Finds, find-stands, new-found, phrase-is-text, found-in-own, found-in-book}
 use Rattle.plate.specs.Writing.{ownBit, textBitsAt, textBits, textsBits}
@@ -131,7 +131,7 @@ texts-in-row c =
       no-bits = refl;
       bits = λ t ts. refl;
       none-good = refl;
-      good = λ t ts h k. rw h k;
-      first-good = λ t ts h. and-parts (isText t) (all isText ts) h .0;
-      rest-good = λ t ts h. and-parts (isText t) (all isText ts) h .1;
+      good = all-cons isText;
+      first-good = all-first isText;
+      rest-good = all-rest isText;
     }

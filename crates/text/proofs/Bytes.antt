@@ -4,13 +4,13 @@ use mathlib.Core.Path.{_≡_, refl}
 use mathlib.Core.Bool.{true, false}
 use native.Mathlib.Omega.{arith}
 use lib.ListN.{length}
-use lib.Dec.{leb, eqb}
+use lib.Dec.{eqb}
 use lib.IntN.{ℤ, pos, negsuc}
-use borrow.Author.Tests.{leb-true, le-leb, ne-eqb}
+use borrow.Author.Tests.{le-leb, ne-eqb}
 use Rattle.text.specs.Parts.{all, LF, comma}
 use Rattle.text.specs.Text.{Text, allowed, textByte, textSize, isText}
 use Rattle.text.specs.Number.{isDigit, decimalℕ, decimal, minus}
-use Rattle.text.proofs.Tests.{and-parts, all-cons, all-so}
+use Rattle.text.proofs.Tests.{and-parts, in-range, all-cons, all-so}
 use Rattle.text.proofs.Splits.{other}
 use Rattle.text.proofs.Decimals.{digit-bounds, natural-digits, decimalℕ-natural}
 use Rattle.text.proofs.Valid.{TextOk}
@@ -29,12 +29,10 @@ module _ (b : ℕ) where
   text-no-comma h = and-parts (allowed b) (other comma b) h .1
 
   pub allowed-no-LF : allowed b ≡ true → other LF b ≡ true
-  allowed-no-LF h =
-      let l = leb-true 32 b (and-parts (leb 32 b) (leb b 126) h .0) in
-      rw (ne-eqb b LF (λ e. omega arith))
+  allowed-no-LF h = let l = in-range 32 b 126 h in rw (ne-eqb b LF (λ e. omega arith))
 
-pub text-no-LF : (b : ℕ) → textByte b ≡ true → other LF b ≡ true
-text-no-LF b h = allowed-no-LF b (text-allowed b h)
+  pub text-no-LF : textByte b ≡ true → other LF b ≡ true
+  text-no-LF h = allowed-no-LF (text-allowed h)
 
 -- a text has only such bytes, 1 to 64 of them
 pub text-bytes : (t : Text) → TextOk t → all textByte t ≡ true
@@ -43,9 +41,7 @@ text-bytes t h = and-parts (textSize t) (all textByte t) h .1
 
 pub text-size : (t : Text) → TextOk t → (1 ≤ length t) × (length t ≤ 64)
 unfolding isText
-text-size t h =
-    let k = and-parts (leb 1 (length t)) (leb (length t) 64) (and-parts (textSize t) (all textByte t) h .0) in
-    (leb-true 1 (length t) (k .0), leb-true (length t) 64 (k .1))
+text-size t h = in-range 1 (length t) 64 (and-parts (textSize t) (all textByte t) h .0)
 
 pub decimalℕ-bytes : (n : ℕ) → all textByte (decimalℕ n) ≡ true
 decimalℕ-bytes n = all-so isDigit textByte digit-text (decimalℕ n) (natural-digits (decimalℕ n) (decimalℕ-natural n))

@@ -3,7 +3,7 @@ use Prim.Native.Nat.{ℕ, zero, suc, _<_, _≤_}
 use mathlib.Core.Path.{_≡_, refl, _∙_}
 use mathlib.Core.List.{List, [], _∷_}
 use mathlib.Core.Bool.{Bool, true, false, cond}
-use mathlib.Core.Option.{Option, none, some}
+use mathlib.Core.Option.{Option, none, some, Option·none-ne-some}
 use native.Mathlib.Omega.{arith}
 use lib.ListN.{length}
 use lib.Dec.{eqb}
@@ -29,20 +29,20 @@ constant-read (negsuc n) h = rw (natural-read 2147483648 (suc n) (omega arith))
 
 pub constant-written : (s : List ℕ) (c : ℤ) → constant s ≡ some c → (decimal c ≡ s) × (mag c < 2147483648)
 unfolding constant decimal
-constant-written [] c h = let z : _≡_ {A = ℕ} 0 1 = cc in absurd (omega arith)
+constant-written [] c h = absurd (Option·none-ne-some c h)
 constant-written (b ∷ s) c h = go (eqb b minus) refl h
   where
     below : (o : Option ℕ) → natural 2147483648 s ≡ o → eqb b minus ≡ true → negative o ≡ some c
         → (decimal c ≡ b ∷ s) × (mag c < 2147483648)
-    below none e m q = let z : _≡_ {A = ℕ} 0 1 = cc in absurd (omega arith)
-    below (some zero) e m q = let z : _≡_ {A = ℕ} 0 1 = cc in absurd (omega arith)
+    below none e m q = absurd (Option·none-ne-some c q)
+    below (some zero) e m q = absurd (Option·none-ne-some c q)
     below (some (suc n)) e m q =
         let v : negsuc n ≡ c = cc in
         let w = natural-written 2147483648 s (suc n) e in
         rw (← v) (rw (eqb-true b minus m, w .0) refl, omega arith)
 
     above : (o : Option ℕ) → natural 2147483647 (b ∷ s) ≡ o → positive o ≡ some c → (decimal c ≡ b ∷ s) × (mag c < 2147483648)
-    above none e q = let z : _≡_ {A = ℕ} 0 1 = cc in absurd (omega arith)
+    above none e q = absurd (Option·none-ne-some c q)
     above (some n) e q =
         let v : pos n ≡ c = cc in
         let w = natural-written 2147483647 (b ∷ s) n e in

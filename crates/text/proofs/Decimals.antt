@@ -3,7 +3,7 @@ use Prim.Native.Nat.{ℕ, zero, suc, _+_, _*_, _-_, _/_, _%_, _^_, _<_, _≤_}
 use mathlib.Core.Path.{_≡_, refl, sym, ap, _∙_}
 use mathlib.Core.List.{List, [], _∷_, _++_, append-assoc, append-nil}
 use mathlib.Core.Bool.{Bool, true, false, cond, not, _&&_}
-use mathlib.Core.Option.{none, some}
+use mathlib.Core.Option.{none, some, Option·none-ne-some}
 use native.Mathlib.Nat.{pow-suc}
 use native.Mathlib.Omega.{arith}
 use lib.ListN.{length, length-append}
@@ -11,12 +11,12 @@ use lib.Dec.{leb, ltb, eqb}
 use borrow.Author.Tests.{ltb-true, ltb-false, leb-true, lt-ltb, le-ltb, le-leb, eqb-false, not-true, ne-eqb}
 use Rattle.text.specs.Parts.{all}
 use Rattle.text.specs.Number.{isDigit, valueFrom, isNatural, natural, digits, decimalℕ}
-use Rattle.text.proofs.Tests.{and-parts, and-both, all-first, all-rest, all-append}
+use Rattle.text.proofs.Tests.{and-parts, and-both, in-range, all-first, all-rest, all-append}
 
 -- ---- how a number is written
 
 pub digit-bounds : (b : ℕ) → isDigit b ≡ true → (48 ≤ b) × (b ≤ 57)
-digit-bounds b h = let e = and-parts (leb 48 b) (leb b 57) h in (leb-true 48 b (e .0), leb-true b 57 (e .1))
+digit-bounds b h = in-range 48 b 57 h
 
 digit-is : (d : ℕ) → d < 10 → isDigit (48 + d) ≡ true
 digit-is d h = and-both (le-leb 48 (48 + d) (omega arith)) (le-leb (48 + d) 57 (omega arith))
@@ -89,15 +89,15 @@ digits-same (b ∷ c ∷ s) h =
 -- what is read as n is how n is written
 pub natural-written : (limit : ℕ) (s : List ℕ) (n : ℕ) → natural limit s ≡ some n → (decimalℕ n ≡ s) × (n ≤ limit)
 unfolding natural
-natural-written limit s n h = go (isNatural s) (leb (valueFrom 0 s) limit) refl refl h
+natural-written limit s n h = go (isNatural s && leb (valueFrom 0 s) limit) refl h
   where
-    go : (a b : Bool) → isNatural s ≡ a → leb (valueFrom 0 s) limit ≡ b → cond (a && b) (some (valueFrom 0 s)) none ≡ some n
+    go : (b : Bool) → (isNatural s && leb (valueFrom 0 s) limit) ≡ b → cond b (some (valueFrom 0 s)) none ≡ some n
         → (decimalℕ n ≡ s) × (n ≤ limit)
-    go true true d e q =
+    go true e q =
+        let k = and-parts (isNatural s) (leb (valueFrom 0 s) limit) e in
         let v : valueFrom 0 s ≡ n = cc in
-        (rw (← v) (digits-same s d), rw (← v) (leb-true (valueFrom 0 s) limit e))
-    go true false d e q = let z : _≡_ {A = ℕ} 0 1 = cc in absurd (omega arith)
-    go false b d e q = let z : _≡_ {A = ℕ} 0 1 = cc in absurd (omega arith)
+        (rw (← v) (digits-same s (k .0)), rw (← v) (leb-true (valueFrom 0 s) limit (k .1)))
+    go false e q = absurd (Option·none-ne-some n q)
 
 -- ---- written, then read
 

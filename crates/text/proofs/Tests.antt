@@ -1,18 +1,20 @@
 -- What a passed test of two parts, of every element, or of the same bytes says.
-use Prim.Native.Nat.{ℕ}
+use Prim.Native.Nat.{ℕ, _≤_}
 use mathlib.Core.Path.{_≡_, refl}
 use mathlib.Core.List.{List, [], _∷_, _++_}
-use mathlib.Core.Bool.{Bool, true, false, _&&_}
-use lib.Dec.{eqb}
-use borrow.Author.Tests.{eqb-true, eq-eqb}
+use mathlib.Core.Bool.{Bool, true, _&&_, and-eq-true-iff}
+use lib.Dec.{leb, eqb}
+use borrow.Author.Tests.{leb-true, eqb-true, eq-eqb}
 use Rattle.text.specs.Parts.{all, same}
 
 pub and-parts : (a b : Bool) → (a && b) ≡ true → (a ≡ true) × (b ≡ true)
-and-parts true b h = (refl, h)
-and-parts false b h = (h, cc)
+and-parts a b = and-eq-true-iff a b .0
 
 pub and-both : {a b : Bool} → a ≡ true → b ≡ true → (a && b) ≡ true
 and-both h k = rw (h, k)
+
+pub in-range : (a n b : ℕ) → (leb a n && leb n b) ≡ true → (a ≤ n) × (n ≤ b)
+in-range a n b h = let k = and-parts (leb a n) (leb n b) h in (leb-true a n (k .0), leb-true n b (k .1))
 
 module _ {A : Type 0} (p : A → Bool) where
   pub all-first : (a : A) (s : List A) → all p (a ∷ s) ≡ true → p a ≡ true

@@ -1,12 +1,13 @@
 -- The outcome is waiting exactly where the last line written is a question's and no answer is left for it.
 use Prim.Native.Nat.{ℕ}
 use native.Mathlib.Omega.{arith}
-use mathlib.Core.Path.{_≡_, refl}
+use mathlib.Core.Path.{_≡_, refl, sym, ap, _∙_}
 use mathlib.Core.Logic.{_↔_}
-use mathlib.Core.List.{List, [], _∷_, _++_}
-use mathlib.Core.Bool.{Bool, true, false, cond}
+use mathlib.Core.List.{List, [], _∷_, _++_, cons-ne-nil}
+use mathlib.Core.Bool.{Bool, true, false, cond, false≢true}
 use lib.ListN.{length}
 use lib.IntN.{ℤ}
+use Rattle.causes.specs.Causes.{outcomeNumber}
 use Rattle.causes.specs.declared.Outcome.{Outcome}
 use Rattle.causes.specs.declared.Outcome.the-variants.{Waiting}
 use Rattle.transcript.specs.Statement.{Statement, input, inputs, print, printex}
@@ -51,7 +52,7 @@ choose-told r n (a ∷ rest) s e q = go (isOption n a)
   where
     go : (v : Bool) → Told (cond v (goesOn (takeAnswer r a rest s)) (outside s))
     go true = ends-last (s .transcript) (answered a)
-    go false = λ none. let z : _≡_ {A = ℕ} 0 1 = cc in absurd (omega arith)
+    go false = λ none. cons-ne-nil a rest (sym e ∙ none)
 
 pub perform-told : (x : Statement) (s : State) → Told (perform x s)
 unfolding perform
@@ -71,10 +72,10 @@ then-told (outside s) f h k = h
 
 -- no ending but a wait has a question without its answer
 not-asking : (s : State) {o : Outcome} → endsAsking (s .transcript) ≡ false → Unanswered s → o ≡ Waiting
-not-asking s h u = let z : _≡_ {A = ℕ} 0 1 = cc in absurd (omega arith)
+not-asking s h u = absurd (false≢true (sym h ∙ u .asks))
 
 pub told-waits : (m : Ending) → Told m → (outcomeOf m ≡ Waiting) ↔ Unanswered (stateOf m)
-told-waits (goesOn s) h = ((λ e. let z : _≡_ {A = ℕ} 0 1 = cc in absurd (omega arith)), not-asking s h)
-told-waits (verdict s) h = ((λ e. let z : _≡_ {A = ℕ} 0 1 = cc in absurd (omega arith)), not-asking s h)
+told-waits (goesOn s) h = ((λ e. absurd (omega (arith, ap outcomeNumber e))), not-asking s h)
+told-waits (verdict s) h = ((λ e. absurd (omega (arith, ap outcomeNumber e))), not-asking s h)
 told-waits (waits s) h = ((λ e. h), (λ u. refl))
-told-waits (outside s) h = ((λ e. let z : _≡_ {A = ℕ} 0 1 = cc in absurd (omega arith)), (λ u. absurd (h (u .none))))
+told-waits (outside s) h = ((λ e. absurd (omega (arith, ap outcomeNumber e))), (λ u. absurd (h (u .none))))

@@ -10,8 +10,8 @@ use Rattle.transcript.specs.declared.Test.{Test}
 use Rattle.lines.specs.declared.Form.the-variants.{Guide as aGuide}
 use Rattle.lines.specs.Line.{Line, phrase, says, ifLine, elseLine, fiLine, gotoLine, ifSkipLine, faulty}
 use Rattle.lines.specs.Check.{Seen, nothingSeen, next, checkFrom, Accepted, accept}
-use Rattle.lines.proofs.Passes.{Passes}
-use Rattle.lines.proofs.Forms.{FormLine, FormLines}
+use Rattle.lines.proofs.Valid.{ValidLine, LinesOk}
+use Rattle.lines.proofs.Passes.{Passes, passes-check}
 use Rattle.lines.proofs.Accepts.{accepts}
 use Rattle.guide.specs.Block.{
   Block,
@@ -31,7 +31,7 @@ use Rattle.guide.specs.Block.{
 }
 use Rattle.guide.specs.Guide.{Guide, guideOf}
 use Rattle.guide.proofs.Accepted.{accepted-guide}
-use Rattle.guide.proofs.Guides.{guide-comes}
+use Rattle.guide.proofs.Guides.{guide-holds}
 use Rattle.plate.specs.Program.{Instruction, goto}
 use Rattle.translate.specs.Translation.{translateBlock, translateGuide}
 
@@ -71,7 +71,7 @@ else-adds n m e [] h = tt
 else-adds n m e (fiThen rest ∷ behind) h = omega arith
 else-adds n m e (elseThen o rest ∷ behind) h = tt
 
-line-adds : (n m : ℕ) (s : Seen) (l : Line) (p : Parsed) → FormLine aGuide l → Adds (next n l s .instructions) m p
+line-adds : (n m : ℕ) (s : Seen) (l : Line) (p : Parsed) → ValidLine aGuide l → Adds (next n l s .instructions) m p
     → Adds (s .instructions) m (lineThen l p)
 unfolding translateBlock
 line-adds n m s l unmatched f h = tt
@@ -80,11 +80,11 @@ line-adds n m s (says x) (parsed b behind) f h = omega arith
 line-adds n m s (ifLine test) (parsed b behind) f h = if-adds (s .instructions) m test b behind h
 line-adds n m s elseLine (parsed b behind) f h = else-adds (s .instructions) m b behind h
 line-adds n m s fiLine (parsed b behind) f h = omega arith
-line-adds n m s (gotoLine k) (parsed b behind) f h = absurd (f .fits)
-line-adds n m s (ifSkipLine test k) (parsed b behind) f h = absurd (f .fits)
+line-adds n m s (gotoLine k) (parsed b behind) f h = absurd (f .ok)
+line-adds n m s (ifSkipLine test k) (parsed b behind) f h = absurd (f .ok)
 line-adds n m s (faulty c) (parsed b behind) f h = h
 
-parse-adds : (book : List Text) (n : ℕ) (s last : Seen) (ls : List Line) → FormLines aGuide ls → Passes book n s last ls
+parse-adds : (book : List Text) (n : ℕ) (s last : Seen) (ls : List Line) → LinesOk aGuide ls → Passes book n s last ls
     → Adds (s .instructions) (last .instructions) (parse ls)
 unfolding parse translateBlock
 parse-adds book n s last [] f p = omega (arith, ap (λ (s : Seen). s .instructions) (p .1))
@@ -102,14 +102,13 @@ pub guide-counted : (book : List Text) (text : List ℕ) (a : Accepted) → acce
 guide-counted book text a e =
     let h = accepts aGuide book text a e in
     let adds = subst (Adds 0 (h .seen .instructions)) (accepted-guide book text a e .matched)
-    (parse-adds book 1 nothingSeen (h .seen) (a .lines) (h .formed) (h .passes)) in
-    record { seen = h .seen; checked = h .checked; count = omega arith; room = omega (arith, h .kept .room) }
+    (parse-adds book 1 nothingSeen (h .seen) (a .lines) (h .valid) (h .passes)) in
+    let checked = passes-check book 1 nothingSeen (h .seen) (a .lines) (h .passes) in
+    record { seen = h .seen; checked = checked; count = omega arith; room = omega (arith, h .room) }
 
 -- "At most 512 instructions"
 pub guide-room : (book : List Text) (text : List ℕ) (g : Guide) → guideOf book text ≡ made g
     → length (translateGuide g .instructions) ≤ 512
 unfolding translateGuide
-guide-room book text g e =
-    let h = guide-comes book text g e in
-    subst (λ (g : Guide). length (translateGuide g .instructions) ≤ 512) (h .whole)
-    (guide-counted book text (h .origin) (h .accepted) .room)
+guide-room book text =
+    guide-holds (λ g. length (translateGuide g .instructions) ≤ 512) book text (λ a e. guide-counted book text a e .room)

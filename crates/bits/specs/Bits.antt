@@ -5,9 +5,11 @@ use mathlib.Core.Bool.{Bool, true, false}
 use lib.ListN.{length, take, drop, replicate}
 use lib.Dec.{eqb}
 
+-- whether a number is odd
 abbrev pub odd : ℕ → Bool
 odd n = eqb (n % 2) 1
 
+-- a bit as a number
 abbrev pub bit : Bool → ℕ
 bit true = 1
 bit false = 0

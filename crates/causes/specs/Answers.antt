@@ -42,6 +42,7 @@ pub record Output : Type 0 where
 abbrev pub output : List ℕ → Output
 output bs = record { bytes = bs; answer = wrote (length bs) }
 
+-- a cause as its number, with its place
 abbrev pub refusing : Cause → ℕ → Answer
 refusing cause place = refusal (number cause) place
 
@@ -55,10 +56,12 @@ lent (refused cause place) buffer = (refusing cause place, buffer)
 
 -- ---- "Where an answer is an enum, a definition provides this paper's number and values for each case"
 
+-- of translate, write_plate and read_plate
 abbrev pub writtenAnswer : Written → Answer
 writtenAnswer (written.Done length) = wrote length
 writtenAnswer (written.Refused r) = refusing (r .cause) (r .place)
 
+-- of walk and run
 abbrev pub ranAnswer : Ran → Answer
 ranAnswer (ran.Done r) = ended (r .length) (outcomeNumber (r .outcome)) (r .taken) (r .steps)
 ranAnswer (ran.Refused r) = refusing (r .cause) (r .place)

@@ -52,6 +52,7 @@ lineThen (gotoLine k) (parsed b behind) = parsed b behind
 lineThen (ifSkipLine test k) (parsed b behind) = parsed b behind
 lineThen (faulty c) (parsed b behind) = parsed b behind
 
+-- what a list of lines is, from the last line to the first
 unfoldable pub parse : List Line → Parsed
 parse [] = parsed empty []
 parse (l ∷ ls) = lineThen l (parse ls)

@@ -7,6 +7,7 @@ use Rattle.lines.specs.declared.Form.the-variants.{Guide as aGuide}
 use Rattle.lines.specs.Check.{accept}
 use Rattle.guide.specs.Block.{Block, blockOf}
 
+-- what an accepted guide holds
 pub record Guide : Type 0 where
   pub own : List Text
   pub block : Block

@@ -45,6 +45,7 @@ unfoldable pub seenIn : Form → List Text → List ℕ → Result Seen
 seenIn form book text =
     cond (leb (length text) (mostBytes form)) (checkFrom book 1 nothingSeen (linesOf form text)) (refused TooLong 0)
 
+-- how many own phrases and instructions, or the refusal
 abbrev pub checkedAnswer : Result Seen → Checked
 checkedAnswer (made s) = Fine (length (s .own)) (s .instructions)
 checkedAnswer (refused cause place) = Refused (record { cause = cause; place = place })

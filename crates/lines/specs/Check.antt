@@ -38,6 +38,7 @@ pub record Seen : Type 0 where
   pub instructions : ℕ
   pub ifs : List Open
 
+-- before the first line
 abbrev pub nothingSeen : Seen
 nothingSeen = record { own = []; instructions = 0; ifs = [] }
 
@@ -73,6 +74,7 @@ causeOf book s (gotoLine k) = roomCause s
 causeOf book s (ifSkipLine t k) = roomCause s
 causeOf book s (faulty c) = some c
 
+-- one instruction more, and these ifs open
 abbrev pub oneMoreInstruction : List Open → Seen → Seen
 oneMoreInstruction ifs s = record { own = s .own; instructions = suc (s .instructions); ifs = ifs }
 
@@ -108,6 +110,7 @@ abbrev pub mostBytes : Form → ℕ
 mostBytes Guide = 16384
 mostBytes Listing = 327680
 
+-- the lines of a text
 abbrev pub linesOf : Form → List ℕ → List Line
 linesOf form text = linesIn form (split LF text)
 

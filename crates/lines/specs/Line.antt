@@ -18,6 +18,7 @@ use Rattle.transcript.specs.declared.Op.the-variants.{Eq, Ne, Lt, Le, Gt, Ge}
 use Rattle.lines.specs.declared.Form.{Form}
 use Rattle.lines.specs.declared.Form.the-variants.{Guide, Listing}
 
+-- a line of a guide or listing, or its fault
 pub data Line : Type 0 where
   -- `phrase,TEXT`
   phrase : Text → Line
@@ -126,6 +127,7 @@ kindLine form w fs =
     (cond (same w (bytes "fi")) (bareLine form fiLine fs)
     (cond (same w (bytes "goto")) (gotoFields form fs) (faulty Kind)))))))))
 
+-- the first field is the kind
 abbrev pub fieldsLine : Form → List (List ℕ) → Line
 fieldsLine form [] = faulty Kind
 fieldsLine form (w ∷ fs) = kindLine form w fs

@@ -25,5 +25,6 @@ readListing book plate = do
 unfoldable pub writePlateCall : List ℕ → List ℕ → List ℕ → Answer × List ℕ
 writePlateCall listing book buffer = lent (writtenPlate book listing >>= λ bs. made (output bs)) buffer
 
+-- then 11
 unfoldable pub readPlateCall : List ℕ → List ℕ → List ℕ → Answer × List ℕ
 readPlateCall plate book buffer = lent (readListing book plate >>= λ bs. made (output bs)) buffer

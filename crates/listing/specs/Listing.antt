@@ -22,6 +22,7 @@ use Rattle.plate.specs.Program.{Instruction, statement, goto, ifSkip, skipOf, P
 
 -- ---- a program as text
 
+-- "OP is eq, ne, lt, le, gt or ge"
 abbrev pub operatorWord : Op → List ℕ
 operatorWord Eq = bytes "eq"
 operatorWord Ne = bytes "ne"
@@ -44,6 +45,7 @@ instructionFields (goto k) = bytes "goto" ∷ decimalℕ k ∷ []
 instructionFields (ifSkip t k) =
     bytes "if" ∷ decimalℕ (t .register) ∷ operatorWord (t .op) ∷ decimal (t .constant) ∷ decimalℕ k ∷ []
 
+-- "`phrase` .. as above"
 abbrev pub phraseFields : Text → List (List ℕ)
 phraseFields t = bytes "phrase" ∷ t ∷ []
 
@@ -56,6 +58,7 @@ unfoldable pub linesText : List (List (List ℕ)) → List ℕ
 linesText [] = []
 linesText (fs ∷ ls) = join comma fs ++ (LF ∷ linesText ls)
 
+-- the listing of a program
 unfoldable pub listingText : Program → List ℕ
 listingText p = linesText (programFields p)
 
@@ -73,6 +76,7 @@ instructionOf elseLine = []
 instructionOf fiLine = []
 instructionOf (faulty c) = []
 
+-- the instructions of the lines, in their order
 unfoldable pub instructionsOf : List Line → List Instruction
 instructionsOf [] = []
 instructionsOf (l ∷ ls) = instructionOf l ++ instructionsOf ls

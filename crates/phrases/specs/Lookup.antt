@@ -41,10 +41,12 @@ phraseIn b own isOwn i = cond isOwn (phraseText (getD (split LF own) i [])) (get
 
 -- ---- answers
 
+-- of the book's check
 abbrev pub bookAnswer : Result (List Text) → book.Book
 bookAnswer (made ts) = Holds (length ts)
 bookAnswer (refused cause line) = Bad line
 
+-- of the lookup
 abbrev pub foundAnswer : Where → Found
 foundAnswer (inBook i) = InBook i
 foundAnswer (inOwn i) = InOwn i

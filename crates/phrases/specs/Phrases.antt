@@ -17,6 +17,7 @@ pub data Where : Type 0 where
   inBook inOwn : ℕ → Where
   nowhere : Where
 
+-- one place further on
 abbrev pub oneMore : Option ℕ → Option ℕ
 oneMore none = none
 oneMore (some i) = some (suc i)
@@ -26,6 +27,7 @@ unfoldable pub place : List Text → Text → Option ℕ
 place [] t = none
 place (p ∷ ps) t = cond (same t p) (some 0) (oneMore (place ps t))
 
+-- a place in the book, else one among the own phrases
 abbrev pub bookFirst : Option ℕ → Option ℕ → Where
 bookFirst (some i) own = inBook i
 bookFirst none (some i) = inOwn i
@@ -35,6 +37,7 @@ bookFirst none none = nowhere
 unfoldable pub find : Phrases → Text → Where
 find c t = bookFirst (place (c .book) t) (place (c .own) t)
 
+-- whether a text is no phrase
 abbrev pub isNowhere : Where → Bool
 isNowhere (inBook i) = false
 isNowhere (inOwn i) = false

@@ -54,6 +54,7 @@ ownFrom book earlier (suc n) = do
   ts ← ownFrom book (earlier ++ (t ∷ [])) n
   return (t ∷ ts)
 
+-- the number less one follows a 1
 abbrev pub ownCountBy : ℕ → Reader ℕ
 ownCountBy zero = return 0
 ownCountBy (suc n) = do
@@ -92,10 +93,12 @@ isTextCode c (suc zero) = false
 isTextCode c (suc (suc zero)) = leb 1 (length (c .book) + length (c .own))
 isTextCode c (suc (suc (suc n))) = false
 
+-- what a text's code calls for: 00 characters, 10 a phrase
 abbrev pub textBy : Phrases → ℕ → Reader Text
 textBy c zero = spelled (c .book) (c .own)
 textBy c (suc n) = phrase (c .book) (c .own)
 
+-- "Text: 00, characters, ETX; or 10 and a phrase"
 unfoldable pub text : Phrases → Reader Text
 text c = do
   code ← judged (number 2) (isTextCode c) Unused
@@ -107,11 +110,13 @@ text c = do
 abbrev pub signed : ℕ → ℕ → ℤ
 signed w v = cond (ltb v (2 ^ (w - 1))) (pos v) (negsuc (2 ^ w - 1 - v))
 
+-- a constant of 16 bits
 abbrev pub short : Reader ℤ
 short = do
   v ← number 16
   return (signed 16 v)
 
+-- a constant of 32 bits
 abbrev pub long : Reader ℤ
 long = do
   v ← number 32
@@ -122,6 +127,7 @@ abbrev pub constantBy : ℕ → Reader ℤ
 constantBy zero = short
 constantBy (suc n) = judged long (λ c. not (isShort c)) Spelling
 
+-- codes 10 and 11 are unused: 13
 unfoldable pub constant : Reader ℤ
 constant = do
   code ← judged (number 2) (λ k. ltb k 2) Unused
@@ -129,6 +135,7 @@ constant = do
 
 -- ---- instructions
 
+-- "eq 0 to ge 5 in the order above"
 abbrev pub opOf : ℕ → Op
 opOf zero = Eq
 opOf (suc zero) = Ne
@@ -197,6 +204,7 @@ program book = do
   is ← many (instruction (record { book = book; own = own })) n
   return (record { own = own; instructions = is })
 
+-- no one among the bits
 unfoldable pub zeros : List Bool → Bool
 zeros [] = true
 zeros (b ∷ bs) = not b && zeros bs
@@ -205,11 +213,13 @@ zeros (b ∷ bs) = not b && zeros bs
 unfoldable pub filling : Program → Reader Program
 filling p q = judge (ltb (length (q .left)) 8 && zeros (q .left)) Filling (q .at) (got p q)
 
+-- a program, and then the filling
 unfoldable pub wholePlate : List Text → Reader Program
 wholePlate book = do
   p ← program book
   filling p
 
+-- the program that was read, or the refusal
 abbrev pub resultOf : Read Program → Result Program
 resultOf (got p q) = made p
 resultOf (stopped cause bit) = refused cause bit

@@ -5,6 +5,7 @@ use Rattle.text.specs.Text.{Text}
 use Rattle.transcript.specs.Statement.{Statement}
 use Rattle.transcript.specs.declared.Test.{Test}
 
+-- "each a 3-bit code and its fields"
 pub data Instruction : Type 0 where
   -- input, inputs, print or printex
   statement : Statement → Instruction

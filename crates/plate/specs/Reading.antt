@@ -19,6 +19,7 @@ pub data Read (A : Type 0) : Type 0 where
   got : A → Place → Read A
   stopped : Cause → ℕ → Read A
 
+-- what stands at a place
 abbrev pub Reader : Type 0 → Type 0
 Reader A = Place → Read A
 
@@ -30,10 +31,12 @@ number w p =
     (stopped PlateEnds (p .at))
 
 module _ {A : Type 0} where
+  -- what was read, or the cause at a bit where the test failed
   abbrev pub judge : Bool → Cause → ℕ → Read A → Read A
   judge true cause bit r = r
   judge false cause bit r = stopped cause bit
 
+  -- a value that was read, judged; a refusal stays
   abbrev pub judgeRead : (A → Bool) → Cause → ℕ → Read A → Read A
   judgeRead test cause bit (got a q) = judge (test a) cause bit (got a q)
   judgeRead test cause bit (stopped c b) = stopped c b
@@ -47,6 +50,7 @@ module _ {A : Type 0} where
   return a p = got a p
 
 module _ {A B : Type 0} where
+  -- what the value calls for, at the place behind it; a refusal stays
   abbrev pub onward : Read A → (A → Reader B) → Read B
   onward (got a q) f = f a q
   onward (stopped cause bit) f = stopped cause bit

@@ -42,6 +42,7 @@ textBitsAt c t (inOwn i) = bitsOf 2 2 ++ ownBit (c .book) (c .own) 1 ++ bitsOf (
 unfoldable pub textBits : Phrases → Text → List Bool
 textBits c t = textBitsAt c t (find c t)
 
+-- texts, one behind the other
 unfoldable pub textsBits : Phrases → List Text → List Bool
 textsBits c [] = []
 textsBits c (t ∷ ts) = textBits c t ++ textsBits c ts
@@ -76,16 +77,19 @@ statementBits c (inputs r t options) =
 statementBits c (print t) = bitsOf 3 2 ++ textBits c t
 statementBits c (printex t) = bitsOf 3 3 ++ textBits c t
 
+-- "goto: skip 9"; "if: register 5, OP 3, constant, skip 9"
 abbrev pub instructionBits : Phrases → Instruction → List Bool
 instructionBits c (statement x) = statementBits c x
 instructionBits c (goto k) = bitsOf 3 4 ++ bitsOf 9 k
 instructionBits c (ifSkip t k) =
     bitsOf 3 5 ++ bitsOf 5 (t .register) ++ bitsOf 3 (opCode (t .op)) ++ constantBits (t .constant) ++ bitsOf 9 k
 
+-- instructions, one behind the other
 unfoldable pub instructionsBits : Phrases → List Instruction → List Bool
 instructionsBits c [] = []
 instructionsBits c (i ∷ is) = instructionBits c i ++ instructionsBits c is
 
+-- phrases, one behind the other
 unfoldable pub phrasesBits : List Text → List Bool
 phrasesBits [] = []
 phrasesBits (t ∷ ts) = spelledBits t ++ phrasesBits ts

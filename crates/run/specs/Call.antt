@@ -13,6 +13,7 @@ use Rattle.transcript.specs.Perform.{report}
 use Rattle.plate.specs.Plate.{plateProgram}
 use Rattle.run.specs.Run.{run}
 
+-- "Scratch: 512 16-bit numbers"
 abbrev pub scratchNumbers : ℕ
 scratchNumbers = 512
 

@@ -7,10 +7,12 @@ use Rattle.text.specs.declared.Natural.the-variants as natural
 use Rattle.text.specs.declared.Constant.{Constant}
 use Rattle.text.specs.declared.Constant.the-variants as constant
 
+-- of a number from 0 to a limit
 abbrev pub naturalAnswer : Option ℕ → Natural
 naturalAnswer none = natural.Wrong
 naturalAnswer (some n) = natural.Is n
 
+-- of a constant
 abbrev pub constantAnswer : Option ℤ → Constant
 constantAnswer none = constant.Wrong
 constantAnswer (some c) = constant.Is c

@@ -11,6 +11,7 @@ use Rattle.text.specs.Parts.{all}
 abbrev pub isDigit : ℕ → Bool
 isDigit b = leb 48 b && leb b 57
 
+-- the minus sign
 abbrev pub minus : ℕ
 minus = 45
 
@@ -37,6 +38,7 @@ register s = natural 31 s
 abbrev pub skip : List ℕ → Option ℕ
 skip s = natural 511 s
 
+-- a number without a sign
 abbrev pub positive : Option ℕ → Option ℤ
 positive none = none
 positive (some n) = some (pos n)
@@ -58,6 +60,7 @@ digits zero n = (48 + n % 10) ∷ []
 digits (suc f) n =
     elim (ltb n 10) [ true ↦ (48 + n % 10) ∷ [] | false ↦ digits f (n / 10) ++ ((48 + n % 10) ∷ []) ]
 
+-- a number from 0 on, in decimal
 abbrev pub decimalℕ : ℕ → List ℕ
 decimalℕ n = digits n n
 

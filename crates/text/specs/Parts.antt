@@ -4,12 +4,15 @@ use mathlib.Core.List.{List, [], _∷_, _++_}
 use mathlib.Core.Bool.{Bool, true, false, cond, _&&_}
 use lib.Dec.{eqb}
 
+-- "LF (byte 10)"
 abbrev pub LF : ℕ
 LF = 10
 
+-- a comma
 abbrev pub comma : ℕ
 comma = 44
 
+-- a byte in front of the first part
 abbrev pub onFirst : ℕ → List (List ℕ) → List (List ℕ)
 onFirst b [] = (b ∷ []) ∷ []
 onFirst b (p ∷ ps) = (b ∷ p) ∷ ps

@@ -4,6 +4,7 @@ use Prim.Native.Char.{Char, code}
 use Prim.Native.String.{String, [] as nothing, _∷_ as _then_}
 use mathlib.Core.List.{List, [], _∷_}
 
+-- the bytes of a quoted text
 abbrev pub bytes : String → List ℕ
 bytes nothing = []
 bytes (c then s) = code c ∷ bytes s

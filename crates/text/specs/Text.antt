@@ -6,6 +6,7 @@ use lib.ListN.{length}
 use lib.Dec.{leb, eqb}
 use Rattle.text.specs.Parts.{all, comma}
 
+-- a text is its bytes
 abbrev pub Text : Type 0
 Text = List ℕ
 
@@ -21,5 +22,6 @@ textByte b = allowed b && not (eqb b comma)
 abbrev pub textSize : Text → Bool
 textSize t = leb 1 (length t) && leb (length t) 64
 
+-- a text: its size, and its bytes
 unfoldable pub isText : Text → Bool
 isText t = textSize t && all textByte t

@@ -74,6 +74,7 @@ holds t s = compares (t .op) (getD (s .registers) (t .register) (pos 0)) (t .con
 
 -- ---- what is reported
 
+-- the state at the end
 abbrev pub stateOf : Ending → State
 stateOf (goesOn s) = s
 stateOf (verdict s) = s

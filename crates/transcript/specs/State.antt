@@ -28,6 +28,7 @@ fieldsOf (ruled t) = bytes "V" ∷ t ∷ []
 unfoldable pub lineBytes : TranscriptLine → List ℕ
 lineBytes l = join comma (fieldsOf l) ++ (LF ∷ [])
 
+-- the lines, one behind the other
 unfoldable pub transcriptBytes : List TranscriptLine → List ℕ
 transcriptBytes [] = []
 transcriptBytes (l ∷ ls) = lineBytes l ++ transcriptBytes ls

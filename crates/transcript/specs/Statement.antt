@@ -8,6 +8,7 @@ use Rattle.text.specs.Text.{Text}
 use Rattle.transcript.specs.declared.Op.{Op}
 use Rattle.transcript.specs.declared.Op.the-variants.{Eq, Ne, Lt, Le, Gt, Ge}
 
+-- "`input`, `inputs`, `print` and `printex`"
 pub data Statement : Type 0 where
   -- `input,R,TEXT`: a question for a whole number
   input : ℕ → Text → Statement

@@ -28,6 +28,7 @@ theWalk g answers = walk (g .block) (start answers)
 abbrev pub theTranscript : Guide → List ℤ → List ℕ
 theTranscript g answers = transcriptBytes (stateOf (theWalk g answers) .transcript)
 
+-- the claim, in the order of the demand's sentences
 pub record Agreement (book guide plate : List ℕ) (answers : List ℤ) (scratch : ℕ) (buffer : List ℕ) : Type 0 where
   -- what the book, the guide and the plate hold
   pub phrases : List Text

@@ -16,5 +16,6 @@ walked book guide answers = do
   g ← guideOf phrases guide
   made (report (walk (g .block) (start answers)))
 
+-- then 11
 unfoldable pub walkCall : List ℕ → List ℕ → List ℤ → List ℕ → Answer × List ℕ
 walkCall guide book answers transcript = lent (walked book guide answers) transcript

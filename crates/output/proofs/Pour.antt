@@ -89,3 +89,13 @@ module _ {A : Type 0} where
   none at old h =
       let k : at ≡ upTo (at + 0) = omega arith in
       λ i. (k i, sym (pour-none at old) i)
+
+  -- one element written, where there is room
+  pub one : (at : ℕ) (a : A) (old : List A) (x : ℕ) (new : List A) → x ≡ upTo (at + 1) → new ≡ set old at a → (x, new) ≡ poured at (a ∷ []) old
+  unfolding poured
+  one at a old x new e f = λ i. (e i, (f ∙ sym (pour-one at a old)) i)
+
+  -- the buffer keeps its length
+  pub kept : (at : ℕ) (new old : List A) (x : ℕ) (last : List A) → (x, last) ≡ poured at new old → length last ≡ length old
+  unfolding poured
+  kept at new old x last e = ap (λ (r : ℕ × List A). length (r .1)) e ∙ pour-length at new old

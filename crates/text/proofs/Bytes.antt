@@ -1,13 +1,14 @@
 -- The bytes of texts and of written numbers: allowed, no comma and no LF.
-use Prim.Native.Nat.{ℕ, suc, _≤_}
+use Prim.Native.Nat.{ℕ, suc, _+_, _≤_, _<_}
 use mathlib.Core.Path.{_≡_, refl}
-use mathlib.Core.Bool.{true, false}
+use mathlib.Core.List.{[], _∷_}
+use mathlib.Core.Bool.{Bool, true, false, cond, not, _&&_}
 use native.Mathlib.Omega.{arith}
 use lib.ListN.{length}
 use lib.Dec.{eqb}
 use lib.IntN.{ℤ, pos, negsuc}
-use borrow.Author.Tests.{le-leb, ne-eqb}
-use Rattle.text.specs.Parts.{all, LF, comma}
+use borrow.Author.Tests.{leb-true, le-leb, lt-leb, ne-eqb}
+use Rattle.text.specs.Parts.{all, untilByte, LF, comma}
 use Rattle.text.specs.Text.{Text, allowed, textByte, textSize, isText}
 use Rattle.text.specs.Number.{isDigit, decimalℕ, decimal, minus}
 use Rattle.text.proofs.Tests.{and-parts, in-range, all-cons, all-so}
@@ -42,6 +43,55 @@ text-bytes t h = and-parts (textSize t) (all textByte t) h .1
 pub text-size : (t : Text) → TextOk t → (1 ≤ length t) × (length t ≤ 64)
 unfolding isText
 text-size t h = in-range 1 (length t) 64 (and-parts (textSize t) (all textByte t) h .0)
+
+-- ---- whether bytes are a text
+
+-- a comma among them
+comma-found : (s : Text) → untilByte comma s < length s → all textByte s ≡ false
+unfolding untilByte all
+comma-found [] h = absurd (omega arith)
+comma-found (b ∷ s) h = go (allowed b) (eqb b comma) h (comma-found s)
+  where
+    go : (v t : Bool) → cond t 0 (suc (untilByte comma s)) < suc (length s)
+        → (untilByte comma s < length s → all textByte s ≡ false) → (v && not t && all textByte s) ≡ false
+    go false t l r = refl
+    go true true l r = refl
+    go true false l r = r (omega arith)
+
+-- no comma among them
+comma-none : (s : Text) → length s ≤ untilByte comma s → all textByte s ≡ all allowed s
+unfolding untilByte all
+comma-none [] h = refl
+comma-none (b ∷ s) h = go (allowed b) (eqb b comma) h (comma-none s)
+  where
+    go : (v t : Bool) → suc (length s) ≤ cond t 0 (suc (untilByte comma s))
+        → (length s ≤ untilByte comma s → all textByte s ≡ all allowed s) → (v && not t && all textByte s) ≡ (v && all allowed s)
+    go v true l r = absurd (omega arith)
+    go false false l r = refl
+    go true false l r = r (omega arith)
+
+module _ (s : Text) where
+  pub text-none : length s ≡ 0 → isText s ≡ false
+  unfolding isText
+  text-none h = rw h
+
+  pub text-long : 64 < length s → isText s ≡ false
+  unfolding isText
+  text-long h = rw (le-leb 1 (length s) (omega arith), lt-leb (length s) 64 h)
+
+  pub text-sized : (length s ≡ 0 → ⊥) → length s ≤ 64 → isText s ≡ all textByte s
+  unfolding isText
+  text-sized h k = rw (le-leb 1 (length s) (omega arith), le-leb (length s) 64 k)
+
+  -- e is the place of the first comma, or the end
+  module _ (e : ℕ) (k : e ≡ 0 + untilByte comma s) where
+    pub text-comma : e < length s → all textByte s ≡ false
+    text-comma h = comma-found s (omega arith)
+
+    pub text-plain : length s ≤ e → all textByte s ≡ all allowed s
+    text-plain h = comma-none s (omega arith)
+
+-- ---- the bytes of a number
 
 pub decimalℕ-bytes : (n : ℕ) → all textByte (decimalℕ n) ≡ true
 decimalℕ-bytes n = all-so isDigit textByte digit-text (decimalℕ n) (natural-digits (decimalℕ n) (decimalℕ-natural n))

@@ -55,6 +55,15 @@ next-digit n d h k =
     ∙ more-digits (n * 10 + d) (n * 10 + d) (omega arith)
     ∙ rw (q, m) (ap (λ s. s ++ ((48 + d) ∷ [])) (fuel (n * 10 + d) n n (omega arith) (omega arith)))
 
+-- the last digit, and those before it
+pub decimalℕ-one : (n : ℕ) → n < 10 → decimalℕ n ≡ (48 + n % 10) ∷ []
+decimalℕ-one n h = let e : n % 10 ≡ n = omega arith in one-digit n n h ∙ rw e
+
+pub decimalℕ-more : (n : ℕ) → 10 ≤ n → decimalℕ n ≡ decimalℕ (n / 10) ++ ((48 + n % 10) ∷ [])
+decimalℕ-more n h =
+    let q : n / 10 * 10 + n % 10 ≡ n = omega arith in
+    rw q at (next-digit (n / 10) (n % 10) (omega arith) (omega arith))
+
 -- ---- read, then written
 
 -- digits behind a number's digits

@@ -4,3 +4,7 @@ pub mod Splits
 pub mod Decimals
 pub mod Constants
 pub mod Bytes
+pub mod Places
+pub mod Reading
+pub mod Answers
+pub mod Signs

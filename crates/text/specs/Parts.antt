@@ -2,7 +2,8 @@
 use Prim.Native.Nat.{ℕ, suc}
 use mathlib.Core.List.{List, [], _∷_, _++_}
 use mathlib.Core.Bool.{Bool, true, false, cond, _&&_}
-use lib.Dec.{eqb}
+use lib.Dec.{eqb, leb}
+use lib.ListN.{length, drop}
 
 -- "LF (byte 10)"
 abbrev pub LF : ℕ
@@ -21,6 +22,10 @@ onFirst b (p ∷ ps) = (b ∷ p) ∷ ps
 unfoldable pub split : ℕ → List ℕ → List (List ℕ)
 split x [] = [] ∷ []
 split x (b ∷ s) = cond (eqb b x) ([] ∷ split x s) (onFirst b (split x s))
+
+-- the parts from the place a on; none where a is past the end
+unfoldable pub partsFrom : ℕ → ℕ → List ℕ → List (List ℕ)
+partsFrom x a s = cond (leb a (length s)) (split x (drop a s)) []
 
 -- parts with x between them
 unfoldable pub join : ℕ → List (List ℕ) → List ℕ

@@ -1,0 +1,52 @@
+-- `find` meets its contract: the first x from a on is the first from i on.
+use Prim.Native.Nat.{_+_, _≤_, _-_}
+use mathlib.Core.Path.{sym, _∙_, _≡_, refl}
+use lib.ListN.{length, drop}
+use borrow.Author.Needs.{needs}
+use Rattle.text.specs.Parts.{untilByte}
+use Rattle.text.proofs.Places.{until-here, until-later, until-none}
+use Rattle.text.proofs.parts.find.Statement.{statement}
+use Rattle.text.proofs.parts.find.Tie as tie
+
+abbrev Inv-loop : tie.InvT-loop
+Inv-loop s a x i₀ i = (a + untilByte x (drop a s) ≡ i + untilByte x (drop i s)) × (i ≤ length s)
+
+abbrev μ-loop : tie.MeasureT-loop
+μ-loop s a x i₀ i = length s - i
+
+loop-holds : tie.Need-loop-holds Inv-loop μ-loop
+loop-holds c = (refl, c .pre)
+
+shared-slice-read-if1 : tie.Need-shared-slice-read-if1 Inv-loop μ-loop
+shared-slice-read-if1 c = search needs
+
+returns : tie.Need-returns Inv-loop μ-loop
+returns c =
+    (until-here _ _ _ (c .before .before .loop-test .taken) (c .if1 .taken) ∙ sym (c .before .before .before .loop .inv .0), search needs)
+
+add-i : tie.Need-add-i Inv-loop μ-loop
+add-i c = search needs
+
+loop-less : tie.Need-loop-less Inv-loop μ-loop
+loop-less c = search needs
+
+loop-again : tie.Need-loop-again Inv-loop μ-loop
+loop-again c =
+    (c .before .before .before .loop .inv .0 ∙ until-later _ _ _ (c .before .before .loop-test .taken) (c .if1 .left), search needs)
+
+returns-2 : tie.Need-returns-2 Inv-loop μ-loop
+returns-2 c = (until-none _ _ _ (c .loop-test .left) ∙ sym (c .before .loop .inv .0), search needs)
+
+pub find-spec : {M : Type 1} → statement M
+find-spec =
+    tie.close
+    (tie.spec
+    Inv-loop
+    μ-loop
+    loop-holds
+    shared-slice-read-if1
+    returns
+    add-i
+    loop-less
+    loop-again
+    returns-2)

@@ -1,0 +1,80 @@
+// Parts of a text: lines parted by LF, fields parted by commas.
+ghost use mathlib.Core.Path.{_≡_};
+ghost use mathlib.Core.List.{[]};
+ghost use Prim.Native.Nat.{_+_, _≤_};
+ghost use lib.ListN.{length, drop, getD};
+ghost use Rattle.text.specs.Parts as parts;
+
+// The place of the first byte x from a on, or the text's end.
+pub fn find(s: &[u8], a: usize, x: u8) -> usize
+    requires { ⌜ a ≤ length (now s) ⌝ }
+    ensures { λ r. ⌜ r ≡ a + parts.untilByte x (drop a (now (s .entry))) ⌝ }
+    ensures { λ r. ⌜ r ≤ length (now (s .entry)) ⌝ }
+{
+    let mut i = a;
+    while i < s.len() {
+        if s[i] == x {
+            return i;
+        }
+        i += 1;
+    }
+    i
+}
+
+// Whether two slices hold the same bytes.
+pub fn same(a: &[u8], b: &[u8]) -> bool
+    ensures { λ r. ⌜ r ≡ parts.same (now (a .entry)) (now (b .entry)) ⌝ }
+{
+    if a.len() != b.len() {
+        return false;
+    }
+    let mut i = 0;
+    while i < a.len() {
+        if a[i] != b[i] {
+            return false;
+        }
+        i += 1;
+    }
+    true
+}
+
+// How many parts there are: one more than bytes x.
+pub fn count_parts(s: &[u8], x: u8) -> usize
+    ensures { λ r. ⌜ r ≡ length (parts.split x (now (s .entry))) ⌝ }
+{
+    let mut n = 0;
+    let mut a = 0;
+    while a <= s.len() {
+        a = find(s, a, x) + 1;
+        n += 1;
+    }
+    n
+}
+
+// Where part k starts; past the text's end where there are not so many.
+pub fn part_start(s: &[u8], x: u8, k: usize) -> usize
+    ensures { λ r. ⌜ drop k (parts.split x (now (s .entry))) ≡ parts.partsFrom x r (now (s .entry)) ⌝ }
+{
+    let mut a = 0;
+    let mut left = k;
+    while a <= s.len() {
+        if left == 0 {
+            return a;
+        }
+        a = find(s, a, x) + 1;
+        left -= 1;
+    }
+    a
+}
+
+// Part k, or no bytes where there are not so many.
+pub fn part(s: &[u8], x: u8, k: usize) -> &[u8]
+    ensures { λ r. ⌜ now r ≡ getD (parts.split x (now (s .entry))) k [] ⌝ }
+{
+    let a = part_start(s, x, k);
+    if s.len() < a {
+        return &s[..0];
+    }
+    let e = find(s, a, x);
+    &s[a..e]
+}

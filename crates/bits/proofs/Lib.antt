@@ -1,2 +1,6 @@
 pub mod Numbers
 pub mod Bytes
+pub mod Fields
+pub mod Turns
+pub mod Reading
+pub mod Writing

@@ -24,7 +24,7 @@ bit-odd n = go (odd n) refl
     go true e = sym (eqb-true _ _ e)
     go false e = let other : n % 2 ≡ 1 → ⊥ = eqb-false _ _ e in omega arith
 
-value-of-low-bits : (w v : ℕ) → valueOf (bitsOf w v) ≡ v % 2 ^ w
+pub value-of-low-bits : (w v : ℕ) → valueOf (bitsOf w v) ≡ v % 2 ^ w
 unfolding bitsOf valueOf
 value-of-low-bits zero v = sym (mod-one v)
 value-of-low-bits (suc w) v = rw (bit-odd, length-bitsOf w v, value-of-low-bits w v, ← one-add w, mod-pow-add v 1 w)
@@ -39,7 +39,7 @@ value-below (true ∷ bs) = omega (arith, value-below bs, pow-succ' 2 (length bs
 value-below (false ∷ bs) = omega (arith, value-below bs, pow-succ' 2 (length bs))
 
 -- bits of one length that are one number are the same
-same-value : (xs ys : List Bool) → length xs ≡ length ys → valueOf xs ≡ valueOf ys → xs ≡ ys
+pub same-value : (xs ys : List Bool) → length xs ≡ length ys → valueOf xs ≡ valueOf ys → xs ≡ ys
 unfolding valueOf
 same-value [] [] l e = refl
 same-value [] (y ∷ ys) l e = absurd (omega arith)

@@ -1,8 +1,112 @@
-// Numbers of 0 to 32 bits at any bit position of a byte buffer, highest bit first: reading and writing.
-// specs/Bits.antt says what the bits of bytes are, and how bits are filled up to whole bytes.
+// Numbers of 0 to 32 bits in a byte buffer, at any bit of it, highest bit first.
+// Reading finds the number, or that the buffer ends inside it. Writing stores each bit that has room, changes no other bit, and
+// returns the place behind the bits, with room or without: a first pass over no buffer at all counts the bits of the whole.
+// specs/Bits.antt says what the bits of numbers and of bytes are, and how they are filled up to whole bytes.
+ghost use mathlib.Core.Path.{_≡_};
+ghost use Prim.Native.Nat.{_+_, _-_, _*_, _^_, _≤_, _<_, min};
+ghost use lib.ListN.{length, take, drop};
+ghost use Rattle.output.specs.Pour.{pour, poured};
+ghost use Rattle.bits.specs.Bits.{bitsOf, valueOf, bytesBits};
+ghost use Rattle.bits.specs.Number.{numberIn};
 
 // What reading a number finds: the number, or that the plate ends inside it.
 pub enum Number {
     Is(u32),
     Ends,
+}
+
+// The smaller of two numbers.
+fn smaller(a: usize, b: usize) -> usize
+    ensures { λ r. ⌜ r ≡ min a b ⌝ }
+{
+    if a < b { a } else { b }
+}
+
+// A power of two.
+fn two_to(k: usize) -> usize
+    requires { ⌜ k ≤ 32 ⌝ }
+    ensures { λ r. ⌜ (r ≡ 2 ^ k) × (0 < r) ⌝ }
+{
+    1 << k
+}
+
+// How many of `width` bits from the bit `at` on have room in so many bytes. Five bytes have room for 32 bits from any bit on.
+fn room(bytes: usize, at: usize, width: usize) -> usize
+    requires { ⌜ width ≤ 32 ⌝ }
+    ensures { λ r. ⌜ r ≡ min width (bytes * 8 - at) ⌝ }
+{
+    let first = at / 8;
+    if bytes <= first {
+        return 0;
+    }
+    smaller(width, smaller(bytes - first, 5) * 8 - at % 8)
+}
+
+// The number that `size` bits of a byte are, from the bit `bit` on.
+fn field(byte: u8, bit: usize, size: usize) -> usize
+    requires { ⌜ bit + size ≤ 8 ⌝ }
+    ensures { λ r. ⌜ r ≡ valueOf (take size (drop bit (bitsOf 8 byte))) ⌝ }
+{
+    byte as usize / two_to(8 - bit - size) % two_to(size)
+}
+
+// The number that `width` bits of the bytes are, from the bit `at` on.
+pub fn read_number(bytes: &[u8], at: usize, width: usize) -> Number
+    requires { ⌜ width ≤ 32 ⌝ }
+    ensures { λ r. ⌜ r ≡ numberIn width (drop at (bytesBits (now (bytes .entry)))) ⌝ }
+{
+    if room(bytes.len(), at, width) < width {
+        return Number::Ends;
+    }
+    let mut value = 0;
+    let mut index = at / 8;
+    let mut bit = at % 8;
+    let mut left = width;
+    while 0 < left {
+        let size = smaller(8 - bit, left);
+        let part = field(bytes[index], bit, size);
+        value = value * two_to(size) + part;
+        index += (bit + size) / 8;
+        bit = (bit + size) % 8;
+        left -= size;
+    }
+    Number::Is(value as u32)
+}
+
+// A byte with the lowest `size` bits of a number in place of its own, from the bit `bit` on.
+fn with_field(byte: u8, bit: usize, size: usize, value: usize) -> u8
+    requires { ⌜ bit + size ≤ 8 ⌝ }
+    ensures { λ r. ⌜ bitsOf 8 r ≡ pour bit (bitsOf size value) (bitsOf 8 byte) ⌝ }
+{
+    let unit = two_to(8 - bit - size);
+    let values = two_to(size);
+    let old = byte as usize;
+    ((old / unit / values * values + value % values) * unit + old % unit) as u8
+}
+
+// The lowest `width` bits of a number, stored from the bit `at` on, where all of them have room.
+fn store(out: &mut [u8], at: usize, width: usize, value: usize)
+    requires { ⌜ (width ≤ 32) × (width ≤ length (now out) * 8 - at) ⌝ }
+    ensures { λ _. ⌜ bytesBits (now (out .exit)) ≡ pour at (bitsOf width value) (bytesBits (now (out .entry))) ⌝ }
+{
+    let mut index = at / 8;
+    let mut bit = at % 8;
+    let mut left = width;
+    while 0 < left {
+        let size = smaller(8 - bit, left);
+        left -= size;
+        out[index] = with_field(out[index], bit, size, value / two_to(left));
+        index += (bit + size) / 8;
+        bit = (bit + size) % 8;
+    }
+}
+
+// The lowest `width` bits of a number, stored from the bit `at` on as far as the buffer goes, and the place behind them.
+pub fn put_bits(out: &mut [u8], at: usize, width: usize, value: usize) -> usize
+    requires { ⌜ width ≤ 32 ⌝ }
+    ensures { λ r. ⌜ (r, bytesBits (now (out .exit))) ≡ poured at (bitsOf width value) (bytesBits (now (out .entry))) ⌝ }
+{
+    let count = room(out.len(), at, width);
+    store(out, at, count, value / two_to(width - count));
+    output::sum(at, width)
 }

@@ -1,1 +1,3 @@
 pub mod Pour
+pub mod Parts
+pub mod Poured

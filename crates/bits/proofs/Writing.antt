@@ -1,0 +1,70 @@
+-- Writing bits into bytes: as far as there is room, and filled up to whole bytes.
+use Prim.Native.Nat.{ℕ, zero, suc, _+_, _-_, _*_, _/_, _%_, _^_, _≤_, _<_, min}
+use mathlib.Core.Path.{_≡_, refl, sym, ap, _∙_}
+use mathlib.Core.List.{List, _∷_, _++_}
+use mathlib.Core.Bool.{Bool, false}
+use native.Mathlib.Nat.{zero-div}
+use native.Mathlib.Omega.{arith}
+use lib.ListN.{length, drop, getD, replicate, length-drop}
+use lib.Seq.{getD-drop}
+use Rattle.output.specs.Pour.{upTo, pour, poured}
+use Rattle.output.proofs.Pour.{pour-length, pour-fits}
+use Rattle.output.proofs.Parts.{pour-room}
+use Rattle.output.proofs.Poured.{ended, then-counted}
+use Rattle.bits.specs.Bits.{bitsOf, bytesBits, filled, pack}
+use Rattle.bits.proofs.Numbers.{length-bitsOf}
+use Rattle.bits.proofs.Bytes.{length-bytesBits, length-pack, filled-whole, drop-bytes, bytes-append, bytes-of-bits}
+use Rattle.bits.proofs.Fields.{first-bits}
+
+-- to write the bits that have room is to write them all
+pub room-written : (old new : List ℕ) (at width value count power end : ℕ)
+    → bytesBits new ≡ pour at (bitsOf count (value / power)) (bytesBits old) → power ≡ 2 ^ (width - count)
+    → count ≡ min width (length old * 8 - at) → end ≡ upTo (at + width)
+    → (end, bytesBits new) ≡ poured at (bitsOf width value) (bytesBits old)
+unfolding poured
+room-written old new at width value count power end e ep ec ee =
+    let bits = bitsOf width value in
+    let long = length-bitsOf width value in
+    let room = pour-room at count bits (bytesBits old) (omega (arith, length-bytesBits old)) in
+    let counted : end ≡ upTo (at + length bits) = omega arith in
+    let stored : bytesBits new ≡ pour at bits (bytesBits old) = rw ep at e ∙ rw (first-bits width count value (omega arith)) at room in
+    λ i. (counted i, stored i)
+
+-- where a number ends
+pub bits-ended : (at w v : ℕ) (old : List Bool) (x : ℕ) (last : List Bool) → (x, last) ≡ poured at (bitsOf w v) old → x ≡ upTo (at + w)
+bits-ended at w v old x last e = omega (arith, ended at (bitsOf w v) old x last e, length-bitsOf w v)
+
+pub zero-bits : (k : ℕ) → bitsOf k 0 ≡ replicate k false
+unfolding bitsOf
+zero-bits zero = refl
+zero-bits (suc k) = rw (zero-div (2 ^ k)) (ap (λ l. false ∷ l) (zero-bits k))
+
+-- the filling is a number of that many bits
+pub filled-up : (bs : List Bool) → bs ++ bitsOf ((8 - length bs % 8) % 8) 0 ≡ filled bs
+unfolding filled
+filled-up bs = ap (λ l. bs ++ l) (zero-bits _)
+
+-- to write bits and then the filling is to write the filled bits
+pub fill : (bs old : List Bool) (x : ℕ) (mid : List Bool) (last : ℕ × List Bool) → (x, mid) ≡ poured 0 bs old
+    → last ≡ poured x (bitsOf ((8 - x % 8) % 8) 0) mid → x < 18446744073709551615 → last ≡ poured 0 (filled bs) old
+fill bs old x mid last e f h =
+    let n : x ≡ length bs = omega (arith, ended 0 bs old x mid e) in
+    let all : bs ++ bitsOf ((8 - x % 8) % 8) 0 ≡ filled bs = ap (λ m. bs ++ bitsOf ((8 - m % 8) % 8) 0) n ∙ filled-up bs in
+    rw all at (then-counted 0 bs (bitsOf ((8 - x % 8) % 8) 0) old x mid last e f h)
+
+-- filled bits that are written at the front are the packed bytes, and the bytes behind them stay
+pub packed : (bs : List Bool) (old new : List ℕ) → ((i : ℕ) → getD old i 0 < 256) → ((i : ℕ) → getD new i 0 < 256)
+    → length (filled bs) ≤ length old * 8 → bytesBits new ≡ pour 0 (filled bs) (bytesBits old)
+    → new ≡ pack bs ++ drop (length (pack bs)) old
+unfolding pack
+packed bs old new ho hn fits e =
+    let n = length (filled bs) / 8 in
+    let rest = drop n old in
+    let whole : length (filled bs) ≡ n * 8 = sym (filled-whole bs) in
+    let behind : drop (length (filled bs)) (bytesBits old) ≡ bytesBits rest = ap (λ k. drop k (bytesBits old)) whole ∙ drop-bytes n old in
+    let bits = rw behind at (e ∙ pour-fits (filled bs) (bytesBits old) (omega (arith, length-bytesBits old))) in
+    let same = ap length e ∙ pour-length 0 (filled bs) (bytesBits old) in
+    let size : length new ≡ n + length rest = omega (arith, length-bytesBits new, length-bytesBits old, length-drop n old) in
+    let kept = bytes-of-bits rest (λ i. rw (getD-drop n old i 0) (ho (n + i))) in
+    let apart = rw (size, bits, bytes-append n (length rest) (filled bs) (bytesBits rest) whole, kept) at (bytes-of-bits new hn) in
+    rw (length-pack bs) (sym apart)

@@ -2,6 +2,7 @@
 .PHONY: test show
 
 test:
+	cargo test --release --offline --quiet --manifest-path model/Cargo.toml
 	rt ci
 
 show:

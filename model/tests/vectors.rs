@@ -1,0 +1,173 @@
+//! The vector files: what they hold, and whether the stored ones are today's.
+
+use model::vectors::{checksums, collect, files, pattern, table, Call, Vector};
+use std::collections::HashSet;
+use std::fs;
+use std::path::Path;
+
+/// The files are those whose lengths and checksums are stored.
+#[test]
+fn table_is_stored() {
+    let stored = fs::read_to_string(root().join("vectors.txt")).expect("model/vectors.txt");
+    assert_eq!(table(), stored, "write it anew with `vectors --table`, if the change is meant");
+}
+
+/// The files in ../crates/vectors_.., where there are such crates.
+#[test]
+fn crates_have_these_files() {
+    let Ok(crates) = fs::read_dir(root().join("../crates")) else { return };
+    for entry in crates {
+        let path = entry.expect("a directory entry").path();
+        let name = path.file_name().expect("a name").to_string_lossy().into_owned();
+        if !name.starts_with("vectors_") {
+            continue;
+        }
+        let call = Call::ALL.into_iter().find(|call| call.crate_name() == name);
+        let call = call.unwrap_or_else(|| panic!("the model writes no {name}"));
+        for (file, bytes) in files(call).named() {
+            let stored = fs::read(path.join(file)).unwrap_or_else(|e| panic!("{name}/{file}: {e}"));
+            assert!(stored == bytes, "{name}/{file} is not what the model writes");
+        }
+    }
+}
+
+fn root() -> &'static Path {
+    Path::new(env!("CARGO_MANIFEST_DIR"))
+}
+
+/// At least 2,000 cases a call, with acceptance and every cause.
+#[test]
+fn cases_and_causes() {
+    for call in Call::ALL {
+        let vectors = collect(call);
+        assert!(vectors.len() >= 2_000, "{} has {} cases", call.name(), vectors.len());
+        let mut numbers = HashSet::new();
+        for vector in &vectors {
+            let (values, _) = vector.call(call);
+            numbers.insert(values.map_or_else(|refusal| refusal.number, |_| 0));
+        }
+        for number in [0].iter().chain(call.causes()) {
+            assert!(numbers.contains(number), "{} has no {number}", call.name());
+        }
+        assert_eq!(numbers.len(), call.causes().len() + 1);
+    }
+}
+
+/// A reader of what a vector program gets, as README.md describes it.
+struct Cursor<'a> {
+    rest: &'a [u8],
+}
+
+impl<'a> Cursor<'a> {
+    fn bytes(&mut self, length: usize) -> &'a [u8] {
+        let (bytes, rest) = self.rest.split_at(length);
+        self.rest = rest;
+        bytes
+    }
+
+    fn word(&mut self) -> [u8; 4] {
+        self.bytes(4).try_into().expect("4 bytes")
+    }
+
+    fn number(&mut self) -> usize {
+        u32::from_le_bytes(self.word()) as usize
+    }
+
+    fn slice(&mut self) -> Vec<u8> {
+        let length = self.number();
+        self.bytes(length).to_vec()
+    }
+
+    fn vector(&mut self, call: Call) -> Vector {
+        let lent = self.number();
+        let [input, book] = [self.slice(), self.slice()];
+        let mut answers = Vec::new();
+        if call.takes_answers() {
+            let count = self.number();
+            answers.extend((0..count).map(|_| i32::from_le_bytes(self.word())));
+        }
+        let scratch = if call == Call::Run { self.number() } else { 0 };
+        Vector { lent, input, book, answers, scratch }
+    }
+}
+
+/// The cases read from each stdin give the lines of its stdout.
+#[test]
+fn stdin_gives_stdout() {
+    for call in Call::ALL {
+        let files = files(call);
+        let mut cursor = Cursor { rest: &files.stdin };
+        let mut stdout = String::new();
+        while !cursor.rest.is_empty() {
+            stdout += &cursor.vector(call).answer(call);
+        }
+        assert_eq!(stdout.lines().count(), collect(call).len());
+        assert!(stdout.as_bytes() == files.stdout);
+    }
+}
+
+/// Some lines of the format, by hand.
+#[test]
+fn lines_of_answers() {
+    let vector = |lent, input: &[u8]| Vector {
+        lent,
+        input: input.to_vec(),
+        book: Vec::new(),
+        answers: vec![90],
+        scratch: 512,
+    };
+    let guide = vector(7, b"printex,OK\n");
+    assert_eq!(guide.answer(Call::Translate), "Y,5,002C9F2C183037\n");
+    assert_eq!(guide.answer(Call::Walk), "Y,5,0,0,1,562C4F4B0A3037\n");
+    assert_eq!(vector(4, b"printex,OK\n").answer(Call::WritePlate), "N,11,0,0D141B22\n");
+    assert_eq!(vector(0, b"print\n").answer(Call::WritePlate), "N,4,1,\n");
+    let refused = vector(65, b"\x80").answer(Call::Run);
+    let [first, second] = checksums(&pattern(65));
+    assert_eq!(refused, format!("N,12,6,{first},{second}\n"));
+}
+
+/// The sizes that the vector programs rely on, as README.md states them.
+#[test]
+fn sizes() {
+    for call in Call::ALL {
+        let files = files(call);
+        assert!(files.stdin.len() < 2_500_000);
+        assert!(files.stdout.len() < 1_500_000);
+        for vector in collect(call) {
+            assert!(vector.lent <= 327_680);
+            assert!(vector.answers.len() <= 512);
+            assert!(vector.scratch <= 600);
+        }
+    }
+}
+
+#[test]
+fn long_inputs_are_among_them() {
+    let longest = |call| collect(call).iter().map(|vector| vector.input.len()).max();
+    assert_eq!(longest(Call::Translate), Some(16_385));
+    assert_eq!(longest(Call::Walk), Some(16_385));
+    assert_eq!(longest(Call::WritePlate), Some(327_681));
+    assert_eq!(longest(Call::ReadPlate), Some(5_000));
+    assert_eq!(longest(Call::Run), Some(5_000));
+}
+
+/// Any one byte changed, and any two bytes swapped, change both checksums.
+#[test]
+fn checksums_show_changes() {
+    let bytes = pattern(300);
+    let before = checksums(&bytes);
+    for place in 0..bytes.len() {
+        let mut changed = bytes.clone();
+        changed[place] ^= 1;
+        let after = checksums(&changed);
+        assert!(after[0] != before[0] && after[1] != before[1]);
+        let mut swapped = bytes.clone();
+        swapped.swap(place, (place + 1) % 300);
+        let after = checksums(&swapped);
+        assert!(after[0] != before[0] && after[1] != before[1]);
+    }
+    assert_ne!(checksums(&pattern(299)), before);
+    assert_eq!(checksums(&[]), [0, 0]);
+    assert_eq!(checksums(&[5]), [6, 6]);
+    assert_eq!(checksums(&[5, 9]), [289_636, 417_868]);
+}

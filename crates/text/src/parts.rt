@@ -3,12 +3,12 @@ ghost use mathlib.Core.Path.{_≡_};
 ghost use mathlib.Core.List.{[]};
 ghost use Prim.Native.Nat.{_+_, _≤_};
 ghost use lib.ListN.{length, drop, getD};
-ghost use Rattle.text.specs.Parts as parts;
+ghost use Rattle.text.specs.Parts.{untilByte, same, split, partsFrom};
 
 // The place of the first byte x from a on, or the text's end.
 pub fn find(s: &[u8], a: usize, x: u8) -> usize
     requires { ⌜ a ≤ length (now s) ⌝ }
-    ensures { λ r. ⌜ r ≡ a + parts.untilByte x (drop a (now (s .entry))) ⌝ }
+    ensures { λ r. ⌜ r ≡ a + untilByte x (drop a (now (s .entry))) ⌝ }
     ensures { λ r. ⌜ r ≤ length (now (s .entry)) ⌝ }
 {
     let mut i = a;
@@ -23,7 +23,7 @@ pub fn find(s: &[u8], a: usize, x: u8) -> usize
 
 // Whether two slices hold the same bytes.
 pub fn same(a: &[u8], b: &[u8]) -> bool
-    ensures { λ r. ⌜ r ≡ parts.same (now (a .entry)) (now (b .entry)) ⌝ }
+    ensures { λ r. ⌜ r ≡ same (now (a .entry)) (now (b .entry)) ⌝ }
 {
     if a.len() != b.len() {
         return false;
@@ -40,7 +40,7 @@ pub fn same(a: &[u8], b: &[u8]) -> bool
 
 // How many parts there are: one more than bytes x.
 pub fn count_parts(s: &[u8], x: u8) -> usize
-    ensures { λ r. ⌜ r ≡ length (parts.split x (now (s .entry))) ⌝ }
+    ensures { λ r. ⌜ r ≡ length (split x (now (s .entry))) ⌝ }
 {
     let mut n = 0;
     let mut a = 0;
@@ -53,7 +53,7 @@ pub fn count_parts(s: &[u8], x: u8) -> usize
 
 // Where part k starts; past the text's end where there are not so many.
 pub fn part_start(s: &[u8], x: u8, k: usize) -> usize
-    ensures { λ r. ⌜ drop k (parts.split x (now (s .entry))) ≡ parts.partsFrom x r (now (s .entry)) ⌝ }
+    ensures { λ r. ⌜ drop k (split x (now (s .entry))) ≡ partsFrom x r (now (s .entry)) ⌝ }
 {
     let mut a = 0;
     let mut left = k;
@@ -69,7 +69,7 @@ pub fn part_start(s: &[u8], x: u8, k: usize) -> usize
 
 // Part k, or no bytes where there are not so many.
 pub fn part(s: &[u8], x: u8, k: usize) -> &[u8]
-    ensures { λ r. ⌜ now r ≡ getD (parts.split x (now (s .entry))) k [] ⌝ }
+    ensures { λ r. ⌜ now r ≡ getD (split x (now (s .entry))) k [] ⌝ }
 {
     let a = part_start(s, x, k);
     if s.len() < a {

@@ -31,7 +31,7 @@ pub fn put(out: &mut [u8], at: usize, text: &[u8]) -> usize
 pub fn put_natural(out: &mut [u8], at: usize, v: u32) -> usize
     ensures { λ r. ⌜ (r, now (out .exit)) ≡ poured at (decimalℕ v) (now (out .entry)) ⌝ }
 {
-    let digit = (48 + v % 10) as u8;
+    let digit = b'0' + (v % 10) as u8;
     if v < 10 {
         return put_byte(out, at, digit);
     }

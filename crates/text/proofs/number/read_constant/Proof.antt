@@ -12,21 +12,6 @@ use Rattle.text.proofs.Signs.{constant-none, constant-plain, constant-m
 use Rattle.text.proofs.number.read_constant.Statement.{statement}
 use Rattle.text.proofs.number.read_constant.Tie as tie
 
--- a number behind a minus, and one with no sign
-below : (c : tie.After-known-told) → (constant (c .before .before .before .before .before .before .before .before .before .args .s .now) ≡ negative (some (c .before .n .given .0 .0)))
-    × (c .before .n .given .0 .0 ≤ 2147483648)
-below c =
-    let e = sym (c .before .before .before .read-natural .ensures) ∙ c .before .n .given .1 in
-    let b = c .before .before .before .before .before in
-    (constant-minus _ (b .before .before .if1 .left) (b .if2 .taken) ∙ ap negative (natural-is _ _ e), natural-at-most _ _ e)
-
-above : (c : tie.After-known-told2) → (constant (c .before .before .before .before .before .before .before .before .args .s .now) ≡ positive (some (c .before .n2 .given .0 .0)))
-    × (c .before .n2 .given .0 .0 ≤ 2147483647)
-above c =
-    let e = sym (c .before .before .before .read-natural2 .ensures) ∙ c .before .n2 .given .1 in
-    let b = c .before .before .before .before in
-    (constant-plain _ (b .before .before .if1 .left) (b .if2 .left) ∙ ap positive (natural-is _ _ e), natural-at-most _ _ e)
-
 returns : tie.Need-returns
 returns c = simp (constant-none (c .before .before .args .s .now) (c .if1 .taken))
 
@@ -57,19 +42,27 @@ returns-2 c =
     let e = natural-wrong _ _ (sym (c .before .before .read-natural .ensures) ∙ c .enum-told .given .1) in
     simp (constant-minus (b .before .before .before .before .args .s .now) (b .before .before .if1 .left) (b .if2 .taken), e)
 
+-- a number behind a minus
+behind-minus : (c : tie.After-known-told) → (constant (c .before .before .before .before .before .before .before .before .before .args .s .now) ≡ negative (some (c .before .n .given .0 .0)))
+    × (c .before .n .given .0 .0 ≤ 2147483648)
+behind-minus c =
+    let e = sym (c .before .before .before .read-natural .ensures) ∙ c .before .n .given .1 in
+    let b = c .before .before .before .before .before in
+    (constant-minus _ (b .before .before .if1 .left) (b .if2 .taken) ∙ ap negative (natural-is _ _ e), natural-at-most _ _ e)
+
 returns-3 : tie.Need-returns-3
-returns-3 c = simp (below (c .before) .0, c .if3 .taken)
+returns-3 c = simp (behind-minus (c .before) .0, c .if3 .taken)
 
 sub-t14 : tie.Need-sub-t14
 sub-t14 c = search needs
 
 cast-t15 : tie.Need-cast-t15
-cast-t15 c = record { sfits = omega (arith, below (c .before) .1) }
+cast-t15 c = record { sfits = omega (arith, behind-minus (c .before) .1) }
 
 returns-4 : tie.Need-returns-4
 returns-4 c =
-    let l = below (c .before) .1 in
-    simp (below (c .before) .0, negative-some _ (c .if3 .left), minus-bits (c .before .before .n .given .0 .0 - 1) (omega arith))
+    let l = behind-minus (c .before) .1 in
+    simp (behind-minus (c .before) .0, negative-some _ (c .if3 .left), minus-bits (c .before .before .n .given .0 .0 - 1) (omega arith))
 
 read-natural-requires-2 : tie.Need-read-natural-requires-2
 read-natural-requires-2 c κs = search needs
@@ -86,11 +79,19 @@ returns-5 c =
     let e = natural-wrong _ _ (sym (c .before .before .read-natural2 .ensures) ∙ c .enum-told2 .given .1) in
     simp (constant-plain (b .before .before .before .before .args .s .now) (b .before .before .if1 .left) (b .if2 .left), e)
 
+-- a number with no sign
+without-sign : (c : tie.After-known-told2) → (constant (c .before .before .before .before .before .before .before .before .args .s .now) ≡ positive (some (c .before .n2 .given .0 .0)))
+    × (c .before .n2 .given .0 .0 ≤ 2147483647)
+without-sign c =
+    let e = sym (c .before .before .before .read-natural2 .ensures) ∙ c .before .n2 .given .1 in
+    let b = c .before .before .before .before in
+    (constant-plain _ (b .before .before .if1 .left) (b .if2 .left) ∙ ap positive (natural-is _ _ e), natural-at-most _ _ e)
+
 cast-t18 : tie.Need-cast-t18
-cast-t18 c = record { sfits = omega (arith, above c .1) }
+cast-t18 c = record { sfits = omega (arith, without-sign c .1) }
 
 returns-6 : tie.Need-returns-6
-returns-6 c = simp (above c .0, toZ-pos w32 {n = c .before .n2 .given .0 .0} (omega (arith, above c .1)))
+returns-6 c = simp (without-sign c .0, toZ-pos w32 {n = c .before .n2 .given .0 .0} (omega (arith, without-sign c .1)))
 
 pub read-constant-spec : {M : Type 1} → statement M
 read-constant-spec =

@@ -6,8 +6,7 @@ use borrow.Author.Needs.{needs}
 use borrow.Author.Tests.{le-leb, lt-leb}
 use Rattle.text.specs.Number.{natural}
 use Rattle.text.proofs.Tests.{and-both}
-use Rattle.text.proofs.Reading.{within, natural-none, natural-zero, natural-led, natural-within}
-use Rattle.text.proofs.Reading.{within-past, within-end, within-not, within-next}
+use Rattle.text.proofs.Reading.{within, natural-none, natural-zero, natural-led, natural-within, within-past, within-end, within-not, within-next}
 use Rattle.text.proofs.number.read_natural.Statement.{statement}
 use Rattle.text.proofs.number.read_natural.Tie as tie
 

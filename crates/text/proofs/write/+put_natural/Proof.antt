@@ -24,14 +24,6 @@ abbrev put-natural-below : ℕ → In 1 put-natural-kinds.ps
 put-natural-below t =
     and 1 put-natural-kinds.ps (falls 1 put-natural-kinds.ps _<_ μ-put-natural t) put-natural.Pre
 
-put-natural-add-digit : (t : ℕ) → put-natural-lts.Need-add-digit (
-  put-byte-reads.Asked,
-  put-byte-reads.Learnt,
-  put-natural-below t,
-  put-natural.Post,
-) (put-natural-at t) put-natural.Post
-put-natural-add-digit t c = search needs
-
 put-natural-cast-digit : (t : ℕ) → put-natural-lts.Need-cast-digit (
   put-byte-reads.Asked,
   put-byte-reads.Learnt,
@@ -39,6 +31,14 @@ put-natural-cast-digit : (t : ℕ) → put-natural-lts.Need-cast-digit (
   put-natural.Post,
 ) (put-natural-at t) put-natural.Post
 put-natural-cast-digit t c = search needs
+
+put-natural-add-digit : (t : ℕ) → put-natural-lts.Need-add-digit (
+  put-byte-reads.Asked,
+  put-byte-reads.Learnt,
+  put-natural-below t,
+  put-natural.Post,
+) (put-natural-at t) put-natural.Post
+put-natural-add-digit t c = search needs
 
 put-natural-put-byte-requires : (t : ℕ) → put-natural-lts.Need-put-byte-requires (
   put-byte-reads.Asked,
@@ -62,8 +62,7 @@ put-natural-returns : (t : ℕ) → put-natural-lts.Need-returns (
   put-natural-below t,
   put-natural.Post,
 ) (put-natural-at t) put-natural.Post
-put-natural-returns t c =
-    rw (decimalℕ-one _ (c .before .before .before .before .if1 .taken)) (c .before .before .put-byte .ensures)
+put-natural-returns t c = rw (decimalℕ-one _ (c .before .before .before .before .if1 .taken)) (c .before .before .put-byte .ensures)
 
 put-natural-put-natural-requires : (t : ℕ) → put-natural-lts.Need-put-natural-requires (
   put-byte-reads.Asked,
@@ -108,8 +107,8 @@ pub +put-natural-spec : {M : Type 1} → statement M
 )
     (put-natural-at t)
     put-natural.Post
-    (put-natural-add-digit t)
     (put-natural-cast-digit t)
+    (put-natural-add-digit t)
     (put-natural-put-byte-requires t)
     (put-natural-same-length t)
     (put-natural-returns t)

@@ -2,3 +2,8 @@ pub mod Valid
 pub mod Stands
 pub mod Width
 pub mod BookValid
+pub mod BookLines
+pub mod Search
+pub mod Checked
+pub mod Texts
+pub mod Answers

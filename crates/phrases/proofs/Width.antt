@@ -43,3 +43,7 @@ least-from (suc f) w n v h k =
 pub width-least : (n w : ℕ) → n ≤ 2 ^ w → width n ≤ w
 unfolding width
 width-least n w h = least-from n 0 n w (omega arith) h
+
+-- fewer are not enough
+pub width-more : (n w : ℕ) → 2 ^ w < n → w < width n
+width-more n w h = lt-of-not-le (λ le. omega (arith, pow-mono le, width-enough n))

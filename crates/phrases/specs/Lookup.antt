@@ -3,6 +3,7 @@
 use Prim.Native.Nat.{ℕ}
 use mathlib.Core.List.{List, [], _∷_, map}
 use mathlib.Core.Bool.{Bool, cond}
+use mathlib.Core.Option.{Option, none, some}
 use lib.ListN.{length, getD, take}
 use Rattle.causes.specs.Answers.{Result, made, refused}
 use Rattle.text.specs.Parts.{split, LF, comma}
@@ -11,6 +12,8 @@ use Rattle.phrases.specs.declared.Book as book
 use Rattle.phrases.specs.declared.Book.the-variants.{Holds, Bad}
 use Rattle.phrases.specs.declared.Found.{Found}
 use Rattle.phrases.specs.declared.Found.the-variants.{InBook, InOwn, Nowhere}
+use Rattle.phrases.specs.declared.lookup.Place.{Place}
+use Rattle.phrases.specs.declared.lookup.Place.the-variants.{At, Missing}
 use Rattle.phrases.specs.Phrases.{Phrases, Where, inBook, inOwn, nowhere}
 
 -- the parts that end at an LF
@@ -45,6 +48,11 @@ phraseIn b own isOwn i = cond isOwn (phraseText (getD (split LF own) i [])) (get
 abbrev pub bookAnswer : Result (List Text) → book.Book
 bookAnswer (made ts) = Holds (length ts)
 bookAnswer (refused cause line) = Bad line
+
+-- of the search among texts
+abbrev pub placeAnswer : Option ℕ → Place
+placeAnswer (some i) = At i
+placeAnswer none = Missing
 
 -- of the lookup
 abbrev pub foundAnswer : Where → Found

@@ -1,0 +1,76 @@
+-- A book's check, one line on.
+use Prim.Native.Nat.{ℕ, suc, _+_, _-_, _≤_, _<_}
+use native.Mathlib.Omega.{arith}
+use mathlib.Core.Path.{_≡_, refl, sym, ap}
+use mathlib.Core.List.{List, []}
+use mathlib.Core.Bool.{true, false, _&&_, and-false}
+use mathlib.Core.Option.{none, some}
+use lib.ListN.{length, take, drop, drop-of-length-le, length-append}
+use lib.Seq.{drop-cons}
+use borrow.Author.Tests.{lt-ltb, le-ltb}
+use Rattle.text.specs.Parts.{split, untilByte, LF}
+use Rattle.text.specs.Text.{Text, isText}
+use Rattle.text.proofs.Places.{part-first, part-last}
+use Rattle.text.proofs.Splits.{split-some}
+use Rattle.phrases.specs.Phrases.{place, find, isNew}
+use Rattle.phrases.specs.Book.{isNext, phrasesFrom, bookPhrases}
+use Rattle.phrases.specs.Lookup.{ended, bookTexts, bookAnswer}
+use Rattle.phrases.specs.declared.Book.the-variants.{Holds, Bad}
+use Rattle.phrases.proofs.BookLines.{Whole, whole-none, front-texts, whole-next}
+
+-- ---- whether a line is good behind the earlier ones
+
+module _ (earlier : List Text) (t : Text) where
+  pub next-full : 256 ≤ length earlier → isNext earlier t ≡ false
+  next-full h = rw (le-ltb (length earlier) 256 h, and-false (isText t && isNew [] earlier t))
+
+  pub next-no-text : isText t ≡ false → isNext earlier t ≡ false
+  next-no-text h = rw h
+
+  pub next-repeated : {i : ℕ} → isText t ≡ true → place earlier t ≡ some i → isNext earlier t ≡ false
+  unfolding find place
+  next-repeated h k = rw (h, k)
+
+  pub next-good : length earlier < 256 → isText t ≡ true → place earlier t ≡ none → isNext earlier t ≡ true
+  unfolding find place
+  next-good l h k = rw (lt-ltb (length earlier) 256 l, h, k)
+
+-- ---- the lines before the place a are n good lines
+
+pub record GoodLines (s : List ℕ) (a n : ℕ) : Type 0 where
+  pub whole : Whole (take a s)
+  pub count : n ≡ length (bookTexts (take a s))
+  pub rest : bookPhrases s ≡ phrasesFrom (bookTexts (take a s)) (split LF (drop a s))
+
+pub good-none : (s : List ℕ) → GoodLines s 0 0
+unfolding bookPhrases bookTexts ended split
+good-none s = record { whole = whole-none; count = refl; rest = refl }
+
+module _ (s : List ℕ) (a n : ℕ) (g : GoodLines s a n) where
+  pub good-end : length s ≤ a → bookAnswer (bookPhrases s) ≡ Holds n
+  unfolding phrasesFrom split
+  good-end h = rw (g .rest, drop-of-length-le s h) (ap Holds (sym (g .count)))
+
+  -- the line that starts at a ends at e
+  module _ (e : ℕ) (k : e ≡ a + untilByte LF (drop a s)) where
+    pub last-bad : a < length s → e ≡ length s → bookAnswer (bookPhrases s) ≡ Bad (n + 1)
+    unfolding phrasesFrom
+    last-bad h l =
+        let m : e - a ≡ suc (e - (a + 1)) = omega arith in
+        rw (g .rest, part-last LF s a e k l, m, drop-cons s a 0 h) (ap Bad (omega (arith, g .count)))
+
+    module _ (h : e < length s) where
+      pub line-bad : isNext (bookTexts (take a s)) (take (e - a) (drop a s)) ≡ false → bookAnswer (bookPhrases s) ≡ Bad (n + 1)
+      unfolding phrasesFrom
+      line-bad b =
+          rw (g .rest, part-first LF s a e k h, split-some LF (drop (e + 1) s) .2, b, phrasesFrom) (ap Bad (omega (arith, g .count)))
+
+      pub line-good : isNext (bookTexts (take a s)) (take (e - a) (drop a s)) ≡ true → GoodLines s (e + 1) (n + 1)
+      unfolding phrasesFrom
+      line-good b =
+          let f = front-texts s a e k h (g .whole) in
+          record {
+            whole = whole-next s a e k h (g .whole);
+            count = rw (f, length-append) (omega (arith, g .count));
+            rest = rw (f, g .rest, part-first LF s a e k h, split-some LF (drop (e + 1) s) .2, b, phrasesFrom);
+          }

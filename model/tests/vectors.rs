@@ -1,6 +1,9 @@
 //! The vector files: what they hold, and whether the stored ones are today's.
 
-use model::vectors::{checksums, collect, files, pattern, table, Call, Vector};
+mod common;
+
+use common::cursor::Cursor;
+use model::vectors::{checksums, collect, pattern, table, Call, Set, Vector};
 use std::collections::HashSet;
 use std::fs;
 use std::path::Path;
@@ -22,9 +25,9 @@ fn crates_have_these_files() {
         if !name.starts_with("vectors_") {
             continue;
         }
-        let call = Call::ALL.into_iter().find(|call| call.crate_name() == name);
-        let call = call.unwrap_or_else(|| panic!("the model writes no {name}"));
-        for (file, bytes) in files(call).named() {
+        let set = Set::all().into_iter().find(|set| set.crate_name() == name);
+        let set = set.unwrap_or_else(|| panic!("the model writes no {name}"));
+        for (file, bytes) in set.files().named() {
             let stored = fs::read(path.join(file)).unwrap_or_else(|e| panic!("{name}/{file}: {e}"));
             assert!(stored == bytes, "{name}/{file} is not what the model writes");
         }
@@ -53,53 +56,28 @@ fn cases_and_causes() {
     }
 }
 
-/// A reader of what a vector program gets, as README.md describes it.
-struct Cursor<'a> {
-    rest: &'a [u8],
-}
-
-impl<'a> Cursor<'a> {
-    fn bytes(&mut self, length: usize) -> &'a [u8] {
-        let (bytes, rest) = self.rest.split_at(length);
-        self.rest = rest;
-        bytes
+/// Reads a case of a call.
+fn read_vector(cursor: &mut Cursor, call: Call) -> Vector {
+    let lent = cursor.number();
+    let [input, book] = [cursor.slice(), cursor.slice()];
+    let mut answers = Vec::new();
+    if call.takes_answers() {
+        let count = cursor.number();
+        answers.extend((0..count).map(|_| cursor.signed()));
     }
-
-    fn word(&mut self) -> [u8; 4] {
-        self.bytes(4).try_into().expect("4 bytes")
-    }
-
-    fn number(&mut self) -> usize {
-        u32::from_le_bytes(self.word()) as usize
-    }
-
-    fn slice(&mut self) -> Vec<u8> {
-        let length = self.number();
-        self.bytes(length).to_vec()
-    }
-
-    fn vector(&mut self, call: Call) -> Vector {
-        let lent = self.number();
-        let [input, book] = [self.slice(), self.slice()];
-        let mut answers = Vec::new();
-        if call.takes_answers() {
-            let count = self.number();
-            answers.extend((0..count).map(|_| i32::from_le_bytes(self.word())));
-        }
-        let scratch = if call == Call::Run { self.number() } else { 0 };
-        Vector { lent, input, book, answers, scratch }
-    }
+    let scratch = if call == Call::Run { cursor.number() } else { 0 };
+    Vector { lent, input, book, answers, scratch }
 }
 
 /// The cases read from each stdin give the lines of its stdout.
 #[test]
 fn stdin_gives_stdout() {
     for call in Call::ALL {
-        let files = files(call);
-        let mut cursor = Cursor { rest: &files.stdin };
+        let files = Set::Call(call).files();
+        let mut cursor = Cursor::new(&files.stdin);
         let mut stdout = String::new();
-        while !cursor.rest.is_empty() {
-            stdout += &cursor.vector(call).answer(call);
+        while !cursor.is_at_end() {
+            stdout += &read_vector(&mut cursor, call).answer(call);
         }
         assert_eq!(stdout.lines().count(), collect(call).len());
         assert!(stdout.as_bytes() == files.stdout);
@@ -130,7 +108,7 @@ fn lines_of_answers() {
 #[test]
 fn sizes() {
     for call in Call::ALL {
-        let files = files(call);
+        let files = Set::Call(call).files();
         assert!(files.stdin.len() < 2_500_000);
         assert!(files.stdout.len() < 1_500_000);
         for vector in collect(call) {

@@ -1,17 +1,17 @@
 //! Writes or checks the files of the vector programs.
 //!
-//! - `vectors DIR [CALL..]` writes DIR/vectors_CALL/stdin and stdout;
-//! - `vectors --check DIR [CALL..]` compares those files with the model's;
+//! - `vectors DIR [NAME..]` writes DIR/vectors_NAME/stdin and stdout;
+//! - `vectors --check DIR [NAME..]` compares those files with the model's;
 //! - `vectors --table` prints the lengths and checksums of all files.
 //!
-//! Without names it takes all five calls.
+//! A name is that of a call, or `bits` or `text`. Without names it takes all.
 
-use model::vectors::{self, Call};
+use model::vectors::{self, Set};
 use std::path::Path;
 use std::process::ExitCode;
 use std::{env, fs, io};
 
-const USAGE: &str = "usage: vectors [--check] DIR [CALL..] | vectors --table";
+const USAGE: &str = "usage: vectors [--check] DIR [NAME..] | vectors --table";
 
 fn main() -> ExitCode {
     let arguments: Vec<String> = env::args().skip(1).collect();
@@ -22,10 +22,10 @@ fn main() -> ExitCode {
             Ok(())
         }
         ["--check", directory, ref names @ ..] => {
-            chosen(names).and_then(|calls| check(Path::new(directory), &calls))
+            chosen(names).and_then(|sets| check(Path::new(directory), &sets))
         }
         [directory, ref names @ ..] if !directory.starts_with('-') => chosen(names)
-            .and_then(|calls| write(Path::new(directory), &calls).map_err(|e| e.to_string())),
+            .and_then(|sets| write(Path::new(directory), &sets).map_err(|e| e.to_string())),
         _ => Err(USAGE.to_owned()),
     };
     match result {
@@ -37,31 +37,30 @@ fn main() -> ExitCode {
     }
 }
 
-/// The calls of these names, or all without names.
-fn chosen(names: &[&str]) -> Result<Vec<Call>, String> {
+/// The sets of these names, or all without names.
+fn chosen(names: &[&str]) -> Result<Vec<Set>, String> {
     if names.is_empty() {
-        return Ok(Call::ALL.to_vec());
+        return Ok(Set::all());
     }
-    let of_name = |name: &&str| Call::ALL.into_iter().find(|call| call.name() == *name);
-    let calls: Option<Vec<Call>> = names.iter().map(of_name).collect();
-    calls.ok_or(USAGE.to_owned())
+    let sets: Option<Vec<Set>> = names.iter().map(|name| Set::of_name(name)).collect();
+    sets.ok_or(USAGE.to_owned())
 }
 
-fn write(directory: &Path, calls: &[Call]) -> io::Result<()> {
-    for call in calls {
-        let directory = directory.join(call.crate_name());
+fn write(directory: &Path, sets: &[Set]) -> io::Result<()> {
+    for set in sets {
+        let directory = directory.join(set.crate_name());
         fs::create_dir_all(&directory)?;
-        for (name, bytes) in vectors::files(*call).named() {
+        for (name, bytes) in set.files().named() {
             fs::write(directory.join(name), bytes)?;
         }
     }
     Ok(())
 }
 
-fn check(directory: &Path, calls: &[Call]) -> Result<(), String> {
-    for call in calls {
-        let directory = directory.join(call.crate_name());
-        for (name, bytes) in vectors::files(*call).named() {
+fn check(directory: &Path, sets: &[Set]) -> Result<(), String> {
+    for set in sets {
+        let directory = directory.join(set.crate_name());
+        for (name, bytes) in set.files().named() {
             let path = directory.join(name);
             let stored = fs::read(&path).map_err(|e| format!("{}: {e}", path.display()))?;
             if stored != bytes {

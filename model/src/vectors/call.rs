@@ -25,10 +25,6 @@ impl Call {
         }
     }
 
-    pub fn crate_name(self) -> String {
-        format!("vectors_{}", self.name())
-    }
-
     /// What the call takes first.
     pub fn source(self) -> Source {
         match self {

@@ -1,14 +1,19 @@
 //! The stored cases of the vector programs: what each reads on standard input
 //! and has to write on standard output. README.md gives the format.
 
+pub mod bits;
 mod buffer;
 mod call;
 mod collect;
+mod set;
+mod stdin;
+pub mod text;
 mod vector;
 
 pub use buffer::{checksums, pattern};
 pub use call::Call;
 pub use collect::collect;
+pub use set::Set;
 pub use vector::Vector;
 
 /// The two files of one vector program.
@@ -18,28 +23,29 @@ pub struct Files {
 }
 
 impl Files {
+    /// The files of these cases. `add` adds a case to the first and returns its line of the second.
+    fn of<T>(cases: &[T], add: impl Fn(&T, &mut Vec<u8>) -> String) -> Files {
+        let mut files = Files { stdin: Vec::new(), stdout: Vec::new() };
+        for case in cases {
+            let line = add(case, &mut files.stdin);
+            files.stdout.extend_from_slice(line.as_bytes());
+        }
+        files
+    }
+
     /// The files with their names.
     pub fn named(&self) -> [(&'static str, &[u8]); 2] {
         [("stdin", &self.stdin), ("stdout", &self.stdout)]
     }
 }
 
-pub fn files(call: Call) -> Files {
-    let mut files = Files { stdin: Vec::new(), stdout: Vec::new() };
-    for vector in collect(call) {
-        vector.write(call, &mut files.stdin);
-        files.stdout.extend_from_slice(vector.answer(call).as_bytes());
-    }
-    files
-}
-
 /// A line for each file: its name, its length and its checksum.
 pub fn table() -> String {
     let mut table = String::new();
-    for call in Call::ALL {
-        for (name, bytes) in files(call).named() {
+    for set in Set::all() {
+        for (name, bytes) in set.files().named() {
             let [length, checksum] = [bytes.len() as u64, fnv_1a(bytes)];
-            table += &format!("{}/{name} {length} {checksum:016X}\n", call.crate_name());
+            table += &format!("{}/{name} {length} {checksum:016X}\n", set.crate_name());
         }
     }
     table

@@ -1,7 +1,7 @@
 //! One case of a vector program.
 
 use super::buffer::{pattern, shown};
-use super::Call;
+use super::{stdin, Call};
 use crate::calls::{self, Ran};
 use crate::refusal::Refusal;
 
@@ -24,24 +24,18 @@ impl Vector {
     }
 
     /// Adds the case to what the program reads.
-    pub fn write(&self, call: Call, stdin: &mut Vec<u8>) {
-        let number = |stdin: &mut Vec<u8>, value: usize| {
-            let value = u32::try_from(value).expect("a length of 32 bits");
-            stdin.extend_from_slice(&value.to_le_bytes());
-        };
-        number(stdin, self.lent);
-        for bytes in [&self.input, &self.book] {
-            number(stdin, bytes.len());
-            stdin.extend_from_slice(bytes);
-        }
+    pub fn write(&self, call: Call, out: &mut Vec<u8>) {
+        stdin::number(out, self.lent);
+        stdin::slice(out, &self.input);
+        stdin::slice(out, &self.book);
         if call.takes_answers() {
-            number(stdin, self.answers.len());
+            stdin::number(out, self.answers.len());
             for answer in &self.answers {
-                stdin.extend_from_slice(&answer.to_le_bytes());
+                stdin::signed(out, *answer);
             }
         }
         if call == Call::Run {
-            number(stdin, self.scratch);
+            stdin::number(out, self.scratch);
         }
     }
 

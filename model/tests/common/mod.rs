@@ -2,6 +2,7 @@
 #![allow(dead_code)]
 
 pub mod counts;
+pub mod cursor;
 
 use model::calls::{self, Ran};
 use model::cases::records::RecordCase;

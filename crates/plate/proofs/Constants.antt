@@ -27,7 +27,7 @@ use Rattle.plate.proofs.Readers.{
   gives-so,
 }
 
-abbrev signedNumber : ℕ → Reader ℤ
+abbrev pub signedNumber : ℕ → Reader ℤ
 signedNumber w = number w >>= λ v. return (signed w v)
 
 -- a number of w bits, w not 0, is a constant whose size is below the half of 2 ^ w
@@ -40,7 +40,7 @@ module _ (w : ℕ) (halves : 2 ^ w ≡ 2 ^ (w - 1) + 2 ^ (w - 1)) where
   signed-complement (pos n) h = rw (lt-ltb _ _ h)
   signed-complement (negsuc n) h = rw (le-ltb (2 ^ w - 1 - n) (2 ^ (w - 1)) (omega arith)) (ap negsuc (omega arith))
 
-  signed-small : (v : ℕ) → v < 2 ^ w → mag (signed w v) < 2 ^ (w - 1)
+  pub signed-small : (v : ℕ) → v < 2 ^ w → mag (signed w v) < 2 ^ (w - 1)
   signed-small v h = go (ltb v (2 ^ (w - 1))) refl
     where
       go : (b : Bool) → ltb v (2 ^ (w - 1)) ≡ b → mag (cond b (pos v) (negsuc (2 ^ w - 1 - v))) < 2 ^ (w - 1)

@@ -2,3 +2,4 @@ pub mod Program
 pub mod Writing
 pub mod Reading
 pub mod Plate
+pub mod Places

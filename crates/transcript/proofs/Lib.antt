@@ -3,3 +3,11 @@ pub mod Cases
 pub mod Endings
 pub mod Steps
 pub mod Waiting
+pub mod Tails
+pub mod Natural
+pub mod Lay
+pub mod Follow
+pub mod Offers
+pub mod Answers
+pub mod Options
+pub mod Performs

@@ -2,3 +2,5 @@ pub mod Statement
 pub mod State
 pub mod Perform
 pub mod Waiting
+pub mod Machine
+pub mod Offered

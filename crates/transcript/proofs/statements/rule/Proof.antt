@@ -1,0 +1,22 @@
+-- `rule` meets its contract: a V line, one step, and a verdict.
+use native.Mathlib.Omega.{arith}
+use borrow.Author.Needs.{needs}
+use Rattle.transcript.specs.Statement.{printex}
+use Rattle.transcript.proofs.Performs.{lay-perform}
+use Rattle.transcript.proofs.statements.rule.Statement.{statement}
+use Rattle.transcript.proofs.statements.rule.Tie as tie
+
+put-ruled-requires : tie.Need-put-ruled-requires
+put-ruled-requires c κs = search needs
+
+leave-requires : tie.Need-leave-requires
+leave-requires c κs = search needs
+
+same-length : tie.Need-same-length
+same-length c = search needs
+
+returns : tie.Need-returns
+returns c = ((λ answers. lay-perform _ _ (printex _) _ _ _ _ _ (c .before .before .before .put-ruled .ensures) (c .leave .ensures .0 answers _) (omega arith)), search needs)
+
+pub rule-spec : {M : Type 1} → statement M
+rule-spec = tie.close (tie.spec put-ruled-requires leave-requires same-length returns)

@@ -1,0 +1,4 @@
+pub mod Writes
+pub mod TextBits
+pub mod Complements
+pub mod LineBits

@@ -1,0 +1,70 @@
+-- The bits of texts, taken apart at their front.
+use Prim.Native.Nat.{ℕ, suc, _+_, _-_, _≤_, _<_}
+use native.Mathlib.Omega.{arith}
+use native.Mathlib.Numerals.{add-one}
+use mathlib.Core.Path.{_≡_, refl}
+use mathlib.Core.List.{List, [], _∷_, _++_}
+use lib.ListN.{length, drop, getD, drop-of-length-le, length-take, length-map}
+use lib.Seq.{drop-cons}
+use Rattle.bits.specs.Bits.{bitsOf}
+use Rattle.text.specs.Text.{Text}
+use Rattle.phrases.specs.Phrases.{Phrases, width}
+use Rattle.phrases.specs.Lookup.{ownTexts}
+use Rattle.phrases.proofs.Width.{width-least}
+use Rattle.plate.specs.Writing.{ETX, spelledBits, ownBit, textBits, textsBits, phrasesBits, ownBits}
+
+-- the characters from the place i on
+module _ (t : Text) (i : ℕ) where
+  pub spelled-next : i < length t → spelledBits (drop i t) ≡ bitsOf 7 (getD t i 0) ++ spelledBits (drop (i + 1) t)
+  unfolding spelledBits
+  spelled-next h = rw (drop-cons t i 0 h, add-one)
+
+  pub spelled-end : length t ≤ i → spelledBits (drop i t) ≡ bitsOf 7 ETX
+  unfolding spelledBits
+  spelled-end h = rw (drop-of-length-le t h)
+
+-- the texts from the place i on
+module _ (c : Phrases) (ts : List Text) (i : ℕ) where
+  pub texts-next : i < length ts → textsBits c (drop i ts) ≡ textBits c (getD ts i []) ++ textsBits c (drop (i + 1) ts)
+  unfolding textsBits
+  texts-next h = rw (drop-cons ts i [] h, add-one)
+
+  pub texts-end : length ts ≤ i → textsBits c (drop i ts) ≡ []
+  unfolding textsBits
+  texts-end h = rw (drop-of-length-le ts h)
+
+-- the bit that says book or own
+module _ (b : ℕ) where
+  pub own-bit-no-book : (book own : List Text) → length book ≡ 0 → ownBit book own b ≡ []
+  own-bit-no-book [] own h = refl
+  own-bit-no-book (s ∷ ss) own h = absurd (omega arith)
+
+  pub own-bit-no-own : (book own : List Text) → length own ≡ 0 → ownBit book own b ≡ []
+  own-bit-no-own [] own h = refl
+  own-bit-no-own (s ∷ ss) [] h = refl
+  own-bit-no-own (s ∷ ss) (t ∷ ts) h = absurd (omega arith)
+
+  pub own-bit-both : (book own : List Text) → (length book ≡ 0 → ⊥) → (length own ≡ 0 → ⊥) → ownBit book own b ≡ bitsOf 1 b
+  own-bit-both [] own h k = absurd (h refl)
+  own-bit-both (s ∷ ss) [] h k = absurd (k refl)
+  own-bit-both (s ∷ ss) (t ∷ ts) h k = refl
+
+-- own phrases at a plate's front
+pub own-nothing : (ts : List Text) → length ts ≡ 0 → ownBits ts ≡ bitsOf 1 0
+unfolding ownBits
+own-nothing [] h = refl
+own-nothing (t ∷ ts) h = absurd (omega arith)
+
+pub own-some : (ts : List Text) → (length ts ≡ 0 → ⊥) → ownBits ts ≡ bitsOf 1 1 ++ bitsOf 5 (length ts - 1) ++ phrasesBits ts
+unfolding ownBits
+own-some [] h = absurd (h refl)
+own-some (t ∷ ts) h = let e : suc (length ts) - 1 ≡ length ts = omega arith in rw e
+
+-- ---- a place fits a number of 32 bits
+
+pub width-fits : (n : ℕ) → n ≤ 65536 → width n ≤ 32
+width-fits n h = omega (arith, width-least n 16 h)
+
+pub own-counted : (k : ℕ) (own : List ℕ) → length (ownTexts k own) ≤ k
+unfolding ownTexts
+own-counted k own = simp (length-map, length-take) (omega arith)

@@ -1,0 +1,126 @@
+-- `put_line` meets its contract: each head has its writer, or no bits.
+use mathlib.Core.Path.{refl}
+use borrow.Author.Needs.{needs}
+use Rattle.phrases.specs.Lookup.{phrasesIn}
+use Rattle.writer.proofs.LineBits.{line-writes, line-silent}
+use Rattle.writer.proofs.listing.put_line.Statement.{statement}
+use Rattle.writer.proofs.listing.put_line.Tie as tie
+
+enum-known-head : tie.Need-enum-known-head
+enum-known-head c = search needs
+
+part-requires : tie.Need-part-requires
+part-requires c κs = search needs
+
+put-input-requires : tie.Need-put-input-requires
+put-input-requires c κs = search needs
+
+enum-known-head-2 : tie.Need-enum-known-head-2
+enum-known-head-2 c = search needs
+
+put-inputs-requires : tie.Need-put-inputs-requires
+put-inputs-requires c κs = search needs
+
+enum-told : tie.Need-enum-told
+enum-told c = search needs
+
+part-requires-2 : tie.Need-part-requires-2
+part-requires-2 c κs = search needs
+
+put-print-requires : tie.Need-put-print-requires
+put-print-requires c κs = search needs
+
+enum-told-2 : tie.Need-enum-told-2
+enum-told-2 c = search needs
+
+part-requires-3 : tie.Need-part-requires-3
+part-requires-3 c κs = search needs
+
+put-printex-requires : tie.Need-put-printex-requires
+put-printex-requires c κs = search needs
+
+enum-known-head-3 : tie.Need-enum-known-head-3
+enum-known-head-3 c = search needs
+
+put-goto-requires : tie.Need-put-goto-requires
+put-goto-requires c κs = search needs
+
+enum-known-head-4 : tie.Need-enum-known-head-4
+enum-known-head-4 c = search needs
+
+put-if-requires : tie.Need-put-if-requires
+put-if-requires c κs = search needs
+
+same-length : tie.Need-same-length
+same-length c = search needs
+
+returns : tie.Need-returns
+returns c = line-writes _ _ _ _ (c .before .before .before .before .before .before .head .given .1) _ _ _ _ refl (rw (c .before .before .before .part .ensures) at (c .before .before .put-input .ensures))
+
+same-length-2 : tie.Need-same-length-2
+same-length-2 c = search needs
+
+returns-2 : tie.Need-returns-2
+returns-2 c = line-writes _ _ _ _ (c .before .before .before .before .before .head2 .given .1) _ _ _ _ refl (c .before .before .put-inputs .ensures)
+
+same-length-3 : tie.Need-same-length-3
+same-length-3 c = search needs
+
+returns-3 : tie.Need-returns-3
+returns-3 c = line-writes _ _ _ _ (c .before .before .before .before .before .enum-told .given .1) _ _ _ _ refl (rw (c .before .before .before .part2 .ensures) at (c .before .before .put-print .ensures))
+
+same-length-4 : tie.Need-same-length-4
+same-length-4 c = search needs
+
+returns-4 : tie.Need-returns-4
+returns-4 c = line-writes _ _ _ _ (c .before .before .before .before .before .enum-told2 .given .1) _ _ _ _ refl (rw (c .before .before .before .part3 .ensures) at (c .before .before .put-printex .ensures))
+
+same-length-5 : tie.Need-same-length-5
+same-length-5 c = search needs
+
+returns-5 : tie.Need-returns-5
+returns-5 c = line-writes _ _ _ _ (c .before .before .before .before .before .head3 .given .1) _ _ _ _ refl (c .before .before .put-goto .ensures)
+
+same-length-6 : tie.Need-same-length-6
+same-length-6 c = search needs
+
+returns-6 : tie.Need-returns-6
+returns-6 c =
+    let a = c .before .before .before .before .before .before .before .before .before .before .before .args in
+    line-writes _ _ _ _ (c .before .before .before .before .before .head4 .given .1) _ _ _ _ refl (c .before .before .put-if .ensures (phrasesIn (a .book .now) (a .own .now) (a .count)))
+
+returns-7 : tie.Need-returns-7
+returns-7 c = line-silent _ _ _ _ _ (c .match .keys7) (search needs)
+
+pub put-line-spec : {M : Type 1} → statement M
+put-line-spec =
+    tie.close
+    (tie.spec
+    enum-known-head
+    part-requires
+    put-input-requires
+    enum-known-head-2
+    put-inputs-requires
+    enum-told
+    part-requires-2
+    put-print-requires
+    enum-told-2
+    part-requires-3
+    put-printex-requires
+    enum-known-head-3
+    put-goto-requires
+    enum-known-head-4
+    put-if-requires
+    same-length
+    returns
+    same-length-2
+    returns-2
+    same-length-3
+    returns-3
+    same-length-4
+    returns-4
+    same-length-5
+    returns-5
+    same-length-6
+    returns-6
+    returns-7)

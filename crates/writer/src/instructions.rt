@@ -1,0 +1,141 @@
+// Instructions, each a 3-bit code and its fields.
+ghost use mathlib.Core.Path.{_≡_};
+ghost use mathlib.Core.List.{[], _++_};
+ghost use Prim.Native.Nat.{_-_, _≤_};
+ghost use lib.ListN.{length, drop, getD};
+ghost use Rattle.output.specs.Pour.{poured};
+ghost use Rattle.bits.specs.Bits.{bitsOf, bytesBits};
+ghost use Rattle.text.specs.Parts.{split, comma};
+ghost use Rattle.phrases.specs.Phrases.{Phrases};
+ghost use Rattle.phrases.specs.Lookup.{bookTexts, phrasesIn};
+ghost use Rattle.transcript.specs.Statement.{input, inputs, print, printex};
+ghost use Rattle.plate.specs.Program.{goto, ifSkip};
+ghost use Rattle.plate.specs.Writing.{opCode, textBits, statementBits, instructionBits};
+use crate::constants::put_constant;
+use crate::texts::put_text;
+use crate::texts::put_texts;
+use transcript::Op;
+use transcript::Test;
+
+// A 3-bit code and a register.
+fn put_code(out: &mut [u8], at: usize, code: usize, register: usize) -> usize
+    requires { ⌜ length (now out) ≤ 2953 ⌝ }
+    ensures { λ r. ⌜ (r, bytesBits (now (out .exit))) ≡ poured at (bitsOf 3 code ++ bitsOf 5 register) (bytesBits (now (out .entry))) ⌝ }
+{
+    let end = bits::put_bits(out, at, 3, code);
+    bits::put_bits(out, end, 5, register)
+}
+
+// The number of an OP.
+fn op_code(op: Op) -> usize
+    ensures { λ r. ⌜ r ≡ opCode op ⌝ }
+{
+    match op {
+        Op::Eq => 0,
+        Op::Ne => 1,
+        Op::Lt => 2,
+        Op::Le => 3,
+        Op::Gt => 4,
+        Op::Ge => 5,
+    }
+}
+
+// A question for a number.
+pub fn put_input(
+    out: &mut [u8],
+    at: usize,
+    register: usize,
+    text: &[u8],
+    book: &[u8],
+    own: &[u8],
+    count: usize,
+) -> usize
+    requires { ⌜ (length (now out) ≤ 2953) × (length (bookTexts (now book)) ≤ 65536) × (count ≤ 65536) ⌝ }
+    ensures { λ r. ⌜ (r, bytesBits (now (out .exit))) ≡ poured at (statementBits (phrasesIn (now (book .entry)) (now (own .entry)) count) (input register (now (text .entry)))) (bytesBits (now (out .entry))) ⌝ }
+{
+    let end = put_code(out, at, 0, register);
+    put_text(out, end, text, book, own, count)
+}
+
+// How many options more than two an `inputs` line has, from field 3 on.
+fn options_less_two(line: &[u8]) -> usize
+    ensures { λ r. ⌜ r ≡ length (drop 3 (split comma (now (line .entry)))) - 2 ⌝ }
+{
+    let n = text::count_parts(line, b',');
+    if n < 5 {
+        return 0;
+    }
+    n - 5
+}
+
+// A question with options: an `inputs` line has its text in field 2, and the options from field 3 on.
+pub fn put_inputs(
+    out: &mut [u8],
+    at: usize,
+    register: usize,
+    line: &[u8],
+    book: &[u8],
+    own: &[u8],
+    count: usize,
+) -> usize
+    requires { ⌜ (length (now out) ≤ 2953) × (length (bookTexts (now book)) ≤ 65536) × (count ≤ 65536) ⌝ }
+    ensures { λ r. ⌜ (r, bytesBits (now (out .exit))) ≡ poured at (statementBits (phrasesIn (now (book .entry)) (now (own .entry)) count) (inputs register (getD (split comma (now (line .entry))) 2 []) (drop 3 (split comma (now (line .entry)))))) (bytesBits (now (out .entry))) ⌝ }
+{
+    let mut end = put_code(out, at, 1, register);
+    end = put_text(out, end, text::part(line, b',', 2), book, own, count);
+    end = bits::put_bits(out, end, 3, options_less_two(line));
+    put_texts(out, end, line, 3, book, own, count)
+}
+
+// A text that is shown.
+pub fn put_print(
+    out: &mut [u8],
+    at: usize,
+    text: &[u8],
+    book: &[u8],
+    own: &[u8],
+    count: usize,
+) -> usize
+    requires { ⌜ (length (now out) ≤ 2953) × (length (bookTexts (now book)) ≤ 65536) × (count ≤ 65536) ⌝ }
+    ensures { λ r. ⌜ (r, bytesBits (now (out .exit))) ≡ poured at (statementBits (phrasesIn (now (book .entry)) (now (own .entry)) count) (print (now (text .entry)))) (bytesBits (now (out .entry))) ⌝ }
+{
+    let end = bits::put_bits(out, at, 3, 2);
+    put_text(out, end, text, book, own, count)
+}
+
+// A verdict.
+pub fn put_printex(
+    out: &mut [u8],
+    at: usize,
+    text: &[u8],
+    book: &[u8],
+    own: &[u8],
+    count: usize,
+) -> usize
+    requires { ⌜ (length (now out) ≤ 2953) × (length (bookTexts (now book)) ≤ 65536) × (count ≤ 65536) ⌝ }
+    ensures { λ r. ⌜ (r, bytesBits (now (out .exit))) ≡ poured at (statementBits (phrasesIn (now (book .entry)) (now (own .entry)) count) (printex (now (text .entry)))) (bytesBits (now (out .entry))) ⌝ }
+{
+    let end = bits::put_bits(out, at, 3, 3);
+    put_text(out, end, text, book, own, count)
+}
+
+// A goto. The phrases do not matter.
+pub fn put_goto(out: &mut [u8], at: usize, skip: usize) -> usize
+    requires { ⌜ length (now out) ≤ 2953 ⌝ }
+    ensures { λ r. ⌜ (r, bytesBits (now (out .exit))) ≡ poured at (bitsOf 3 4 ++ bitsOf 9 skip) (bytesBits (now (out .entry))) ⌝ }
+{
+    let end = bits::put_bits(out, at, 3, 4);
+    bits::put_bits(out, end, 9, skip)
+}
+
+// An if. The phrases do not matter.
+pub fn put_if(out: &mut [u8], at: usize, test: Test, skip: usize) -> usize
+    requires { ⌜ length (now out) ≤ 2953 ⌝ }
+    ensures { λ r. ⌜ ((c : Phrases) → (r, bytesBits (now (out .exit))) ≡ poured at (instructionBits c (ifSkip test skip)) (bytesBits (now (out .entry)))) ⌝ }
+{
+    let op = test.op;
+    let mut end = put_code(out, at, 5, test.register);
+    end = bits::put_bits(out, end, 3, op_code(op));
+    end = put_constant(out, end, test.constant);
+    bits::put_bits(out, end, 9, skip)
+}

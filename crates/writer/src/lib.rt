@@ -1,0 +1,35 @@
+// The writer of a plate's bits, for the translator and the converter: own phrases, texts, constants and instructions.
+// Each writer stores its bits from the bit `at` of the lent buffer on, as far as the buffer goes, changes no other bit, and returns the
+// place behind its bits, with room or without: a pass over no buffer at all counts the bits. Its contract says which bits these are, by
+// crate plate's specs/Writing.antt, for a buffer of at most 2,953 bytes, the longest plate.
+// `book` is the phrase book, and `own` a text whose first `count` lines are `phrase,TEXT`. A writer of texts takes books of at most 65,536
+// phrases, and a `count` up to that.
+mod constants;
+mod instructions;
+mod listing;
+mod own;
+mod texts;
+
+pub use constants::put_constant;
+pub use instructions::put_goto;
+pub use instructions::put_if;
+pub use instructions::put_input;
+pub use instructions::put_inputs;
+pub use instructions::put_print;
+pub use instructions::put_printex;
+pub use listing::put_line;
+pub use own::put_own;
+pub use texts::put_spelled;
+pub use texts::put_text;
+pub use texts::put_texts;
+ghost use mathlib.Core.Path.{_≡_};
+ghost use Prim.Native.Nat.{_-_, _%_};
+ghost use Rattle.bits.specs.Bits.{bitsOf, bytesBits};
+ghost use Rattle.output.specs.Pour.{poured};
+
+// The zero bits that fill the last byte.
+pub fn put_fill(out: &mut [u8], at: usize) -> usize
+    ensures { λ r. ⌜ (r, bytesBits (now (out .exit))) ≡ poured at (bitsOf ((8 - at % 8) % 8) 0) (bytesBits (now (out .entry))) ⌝ }
+{
+    bits::put_bits(out, at, (8 - at % 8) % 8, 0)
+}

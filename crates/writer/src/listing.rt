@@ -1,0 +1,51 @@
+// The instruction of a listing line.
+ghost use mathlib.Core.Path.{_≡_};
+ghost use Prim.Native.Nat.{_≤_};
+ghost use lib.ListN.{length};
+ghost use Rattle.output.specs.Pour.{poured};
+ghost use Rattle.bits.specs.Bits.{bytesBits};
+ghost use Rattle.text.specs.Parts.{split, comma};
+ghost use Rattle.phrases.specs.Lookup.{bookTexts, phrasesIn};
+ghost use Rattle.writer.specs.Listing.{lineBits};
+use crate::instructions::put_goto;
+use crate::instructions::put_if;
+use crate::instructions::put_input;
+use crate::instructions::put_inputs;
+use crate::instructions::put_print;
+use crate::instructions::put_printex;
+use lines::Head;
+
+// A listing line's instruction, by the line's head and its fields. A phrase's line has none, nor has a line that no listing has.
+pub fn put_line(
+    out: &mut [u8],
+    at: usize,
+    head: Head,
+    line: &[u8],
+    book: &[u8],
+    own: &[u8],
+    count: usize,
+) -> usize
+    requires { ⌜ (length (now out) ≤ 2953) × (length (bookTexts (now book)) ≤ 65536) × (count ≤ 65536) ⌝ }
+    ensures { λ r. ⌜ (r, bytesBits (now (out .exit))) ≡ poured at (lineBits (phrasesIn (now (book .entry)) (now (own .entry)) count) head (split comma (now (line .entry)))) (bytesBits (now (out .entry))) ⌝ }
+{
+    match head {
+        Head::Input { register } => put_input(
+            out,
+            at,
+            register,
+            text::part(line, b',', 2),
+            book,
+            own,
+            count,
+        ),
+        Head::Inputs {
+            register,
+            options: _,
+        } => put_inputs(out, at, register, line, book, own, count),
+        Head::Print => put_print(out, at, text::part(line, b',', 1), book, own, count),
+        Head::Printex => put_printex(out, at, text::part(line, b',', 1), book, own, count),
+        Head::Goto { skip } => put_goto(out, at, skip),
+        Head::IfSkip { test, skip } => put_if(out, at, test, skip),
+        _ => at,
+    }
+}

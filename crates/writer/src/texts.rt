@@ -1,0 +1,114 @@
+// Texts: spelled, or as the place of a phrase.
+ghost use mathlib.Core.Path.{_≡_};
+ghost use mathlib.Core.List.{_++_};
+ghost use Prim.Native.Nat.{_≤_};
+ghost use lib.ListN.{length, drop};
+ghost use Rattle.output.specs.Pour.{poured};
+ghost use Rattle.bits.specs.Bits.{bitsOf, bytesBits};
+ghost use Rattle.text.specs.Parts.{split, comma};
+ghost use Rattle.phrases.specs.Lookup.{bookTexts, ownTexts, phrasesIn};
+ghost use Rattle.plate.specs.Writing.{spelledBits, ownBit, textBits, textsBits};
+use phrases::Found;
+
+// The characters of a text in 7 bits each, then ETX.
+pub fn put_spelled(out: &mut [u8], at: usize, text: &[u8]) -> usize
+    requires { ⌜ length (now out) ≤ 2953 ⌝ }
+    ensures { λ r. ⌜ (r, bytesBits (now (out .exit))) ≡ poured at (spelledBits (now (text .entry))) (bytesBits (now (out .entry))) ⌝ }
+{
+    let mut end = at;
+    let mut i = 0;
+    while i < text.len() {
+        end = bits::put_bits(out, end, 7, text[i] as usize);
+        i += 1;
+    }
+    bits::put_bits(out, end, 7, 3)
+}
+
+// How many own phrases there are.
+pub fn count_own(own: &[u8], count: usize) -> usize
+    ensures { λ r. ⌜ r ≡ length (ownTexts count (now (own .entry))) ⌝ }
+{
+    let mut n = 0;
+    let mut a = 0;
+    while n < count {
+        if own.len() < a {
+            return n;
+        }
+        a = text::find(own, a, b'\n') + 1;
+        n += 1;
+    }
+    n
+}
+
+// What goes before a phrase's place: 10, and where both the book and the own phrases have some, a bit that is 0 for the book and 1 for own.
+fn put_source(
+    out: &mut [u8],
+    at: usize,
+    source: usize,
+    book: &[u8],
+    own: &[u8],
+    count: usize,
+) -> usize
+    requires { ⌜ length (now out) ≤ 2953 ⌝ }
+    ensures { λ r. ⌜ (r, bytesBits (now (out .exit))) ≡ poured at (bitsOf 2 2 ++ ownBit (bookTexts (now (book .entry))) (ownTexts count (now (own .entry))) source) (bytesBits (now (out .entry))) ⌝ }
+{
+    let end = bits::put_bits(out, at, 2, 2);
+    if phrases::count_texts(book) == 0 {
+        return end;
+    }
+    if count_own(own, count) == 0 {
+        return end;
+    }
+    bits::put_bits(out, end, 1, source)
+}
+
+// A text: a phrase's place where it is a phrase, else spelled.
+pub fn put_text(
+    out: &mut [u8],
+    at: usize,
+    text: &[u8],
+    book: &[u8],
+    own: &[u8],
+    count: usize,
+) -> usize
+    requires { ⌜ (length (now out) ≤ 2953) × (length (bookTexts (now book)) ≤ 65536) × (count ≤ 65536) ⌝ }
+    ensures { λ r. ⌜ (r, bytesBits (now (out .exit))) ≡ poured at (textBits (phrasesIn (now (book .entry)) (now (own .entry)) count) (now (text .entry))) (bytesBits (now (out .entry))) ⌝ }
+{
+    match phrases::find_phrase(book, own, count, text) {
+        Found::InBook(i) => {
+            let end = put_source(out, at, 0, book, own, count);
+            bits::put_bits(out, end, phrases::width_of(phrases::count_texts(book)), i)
+        }
+        Found::InOwn(i) => {
+            let end = put_source(out, at, 1, book, own, count);
+            bits::put_bits(out, end, phrases::width_of(count_own(own, count)), i)
+        }
+        Found::Nowhere => {
+            let end = bits::put_bits(out, at, 2, 0);
+            put_spelled(out, end, text)
+        }
+    }
+}
+
+// The fields of a line from field k on, each a text.
+pub fn put_texts(
+    out: &mut [u8],
+    at: usize,
+    line: &[u8],
+    k: usize,
+    book: &[u8],
+    own: &[u8],
+    count: usize,
+) -> usize
+    requires { ⌜ (length (now out) ≤ 2953) × (length (bookTexts (now book)) ≤ 65536) × (count ≤ 65536) ⌝ }
+    ensures { λ r. ⌜ (r, bytesBits (now (out .exit))) ≡ poured at (textsBits (phrasesIn (now (book .entry)) (now (own .entry)) count) (drop k (split comma (now (line .entry))))) (bytesBits (now (out .entry))) ⌝ }
+{
+    let n = text::count_parts(line, b',');
+    let mut end = at;
+    let mut i = k;
+    while i < n {
+        end = put_text(out, end, text::part(line, b',', i), book, own, count);
+        i += 1;
+    }
+    end
+}

@@ -23,7 +23,7 @@ use Rattle.lines.proofs.Passes.{Passes}
 
 -- ---- what no cause says
 
-test-passed : (b : Bool) (o : Option Cause) (c : Cause) → cond b o (some c) ≡ none → (b ≡ true) × (o ≡ none)
+pub test-passed : (b : Bool) (o : Option Cause) (c : Cause) → cond b o (some c) ≡ none → (b ≡ true) × (o ≡ none)
 test-passed true o c e = (refl, e)
 test-passed false o c e = absurd (Option·some-ne-none c e)
 
@@ -47,7 +47,7 @@ else-allowed o os room = go (o .turned)
     go true e = absurd (Option·some-ne-none _ e)
     go false e = (refl, e)
 
-else-room : (ifs : List Open) (room : Option Cause) → elseCause ifs room ≡ none → room ≡ none
+pub else-room : (ifs : List Open) (room : Option Cause) → elseCause ifs room ≡ none → room ≡ none
 else-room [] room e = absurd (Option·some-ne-none _ e)
 else-room (o ∷ os) room e = else-allowed o os room e .1
 

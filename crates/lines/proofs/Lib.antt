@@ -3,3 +3,12 @@ pub mod Valid
 pub mod Passes
 pub mod Kept
 pub mod Accepts
+pub mod KindLines
+pub mod FieldCounts
+pub mod FieldValues
+pub mod OpenIfs
+pub mod Heads
+pub mod Room
+pub mod OwnFirst
+pub mod LinesPassed
+pub mod Answers

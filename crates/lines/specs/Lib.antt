@@ -1,3 +1,6 @@
 pub mod Line
 pub mod Check
 pub mod Answers
+pub mod Words
+pub mod Fields
+pub mod Held

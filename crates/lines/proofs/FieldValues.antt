@@ -1,0 +1,66 @@
+-- What the answers of the readers say of a field, whose bytes are the part that they were handed.
+use Prim.Native.Nat.{ℕ}
+use mathlib.Core.Path.{_≡_, refl, sym, ap, _∙_}
+use mathlib.Core.List.{List}
+use mathlib.Core.Bool.{Bool}
+use mathlib.Core.Option.{Option, none, some}
+use lib.IntN.{ℤ}
+use Rattle.text.specs.Text.{isText}
+use Rattle.text.specs.Number.{natural, constant}
+use Rattle.text.specs.Answers.{naturalAnswer, constantAnswer}
+use Rattle.text.specs.declared.Natural.{Natural}
+use Rattle.text.specs.declared.Natural.the-variants as natural
+use Rattle.text.specs.declared.Constant.{Constant}
+use Rattle.text.specs.declared.Constant.the-variants as constant
+use Rattle.text.proofs.Answers.{natural-is, natural-wrong, constant-is, constant-wrong}
+use Rattle.transcript.specs.declared.Op.{Op}
+use Rattle.transcript.specs.declared.Test.{Test}
+use Rattle.lines.specs.declared.words.Operator.{Operator}
+use Rattle.lines.specs.declared.words.Operator.the-variants as operator
+use Rattle.lines.specs.declared.fields.TestRead.{TestRead}
+use Rattle.lines.specs.declared.fields.TestRead.the-variants as test
+use Rattle.lines.specs.Line.{operator}
+use Rattle.lines.specs.Words.{operatorAnswer}
+use Rattle.lines.specs.Fields.{testOf, testAnswer}
+
+-- the operator that an answer says
+abbrev pub operatorIn : Operator → Option Op
+operatorIn (operator.Is op) = some op
+operatorIn operator.Wrong = none
+
+operator-back : (o : Option Op) → o ≡ operatorIn (operatorAnswer o)
+operator-back none = refl
+operator-back (some op) = refl
+
+-- the test that an answer says
+abbrev pub testIn : TestRead → Option Test
+testIn (test.Is t) = some t
+testIn test.Wrong = none
+
+test-back : (o : Option Test) → o ≡ testIn (testAnswer o)
+test-back none = refl
+test-back (some t) = refl
+
+pub test-read : (r o c : List ℕ) {a b : TestRead} → a ≡ testAnswer (testOf r o c) → a ≡ b → testOf r o c ≡ testIn b
+test-read r o c e h = test-back (testOf r o c) ∙ ap testIn (sym e ∙ h)
+
+-- p is the field f
+module _ {p f : List ℕ} (e : p ≡ f) where
+  pub text-tested : {v b : Bool} → v ≡ isText p → v ≡ b → isText f ≡ b
+  text-tested h k = ap isText (sym e) ∙ sym h ∙ k
+
+  pub number-read : (limit : ℕ) {r : Natural} {v : ℕ} → r ≡ naturalAnswer (natural limit p) → r ≡ natural.Is v
+      → natural limit f ≡ some v
+  number-read limit h k = ap (natural limit) (sym e) ∙ natural-is limit p (sym h ∙ k)
+
+  pub number-wrong : (limit : ℕ) {r : Natural} → r ≡ naturalAnswer (natural limit p) → r ≡ natural.Wrong → natural limit f ≡ none
+  number-wrong limit h k = ap (natural limit) (sym e) ∙ natural-wrong limit p (sym h ∙ k)
+
+  pub constant-read : {r : Constant} {v : ℤ} → r ≡ constantAnswer (constant p) → r ≡ constant.Is v → constant f ≡ some v
+  constant-read h k = ap constant (sym e) ∙ constant-is p (sym h ∙ k)
+
+  pub constant-missed : {r : Constant} → r ≡ constantAnswer (constant p) → r ≡ constant.Wrong → constant f ≡ none
+  constant-missed h k = ap constant (sym e) ∙ constant-wrong p (sym h ∙ k)
+
+  pub operator-read : {a b : Operator} → a ≡ operatorAnswer (operator p) → a ≡ b → operator f ≡ operatorIn b
+  operator-read h k = ap operator (sym e) ∙ operator-back (operator p) ∙ ap operatorIn (sym h ∙ k)

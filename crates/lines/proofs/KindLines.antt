@@ -1,0 +1,82 @@
+-- A line goes by the kind of its first field.
+use Prim.Native.Nat.{ℕ}
+use mathlib.Core.Path.{_≡_, refl, sym, ap, _∙_}
+use mathlib.Core.List.{List, []}
+use mathlib.Core.Bool.{Bool, true, false, cond}
+use mathlib.Core.Option.{some}
+use lib.ListN.{drop, getD}
+use Rattle.text.specs.Quoted.{bytes}
+use Rattle.text.specs.Parts.{split, comma, same, all}
+use Rattle.text.specs.Text.{allowed}
+use Rattle.text.proofs.Tests.{same-equal}
+use Rattle.text.proofs.Splits.{Some, split-some}
+use Rattle.transcript.specs.declared.Op.the-variants.{Eq, Ne, Lt, Le, Gt, Ge}
+use Rattle.lines.specs.declared.Form.{Form}
+use Rattle.lines.specs.declared.words.Kind.{Kind}
+use Rattle.lines.specs.declared.words.Kind.the-variants.{
+  Phrase,
+  Input,
+  Inputs,
+  Print,
+  Printex,
+  If,
+  Else,
+  Fi,
+  Goto,
+  Unknown,
+}
+use Rattle.lines.specs.Line.{Line, operator, kindLine, fieldsLine, lineOf}
+use Rattle.lines.specs.Words.{kindOf, lineOfKind}
+
+kind-line : (form : Form) (w : List ℕ) (fs : List (List ℕ)) → kindLine form w fs ≡ lineOfKind form (kindOf w) fs
+unfolding kindLine kindOf
+kind-line form w fs =
+    test (same w (bytes "phrase")) Phrase _ _
+    (test (same w (bytes "input")) Input _ _
+    (test (same w (bytes "inputs")) Inputs _ _
+    (test (same w (bytes "print")) Print _ _
+    (test (same w (bytes "printex")) Printex _ _
+    (test (same w (bytes "if")) If _ _
+    (test (same w (bytes "else")) Else _ _
+    (test (same w (bytes "fi")) Fi _ _
+    (test (same w (bytes "goto")) Goto Unknown _ refl))))))))
+  where
+    test : (b : Bool) (k j : Kind) (m : Line) → m ≡ lineOfKind form j fs → cond b (lineOfKind form k fs) m ≡ lineOfKind form (cond b k j) fs
+    test true k j m h = refl
+    test false k j m h = h
+
+-- a line of allowed bytes, whose first field p names the kind k
+pub line-of-kind : (form : Form) (s p : List ℕ) (k : Kind) → all allowed s ≡ true → p ≡ getD (split comma s) 0 [] → k ≡ kindOf p
+    → lineOf form s ≡ lineOfKind form k (drop 1 (split comma s))
+unfolding lineOf
+line-of-kind form s p k h e d = rw (h, d, e) (go (split comma s) (split-some comma s))
+  where
+    go : (fs : List (List ℕ)) → Some fs → fieldsLine form fs ≡ lineOfKind form (kindOf (getD fs 0 [])) (drop 1 fs)
+    go fs (w, rest, e) = rw e (kind-line form w rest)
+
+-- what a word gives that was found the same as the word v
+pub by-word : {A : Type 0} (f : List ℕ → A) (w v : List ℕ) {r : Bool} → r ≡ same w v → r ≡ true → f v ≡ f w
+by-word f w v e h = ap f (sym (same-equal w v (sym e ∙ h)))
+
+-- each word names its kind
+pub kind-words : (kindOf (bytes "phrase") ≡ Phrase)
+    × (kindOf (bytes "input") ≡ Input)
+    × (kindOf (bytes "inputs") ≡ Inputs)
+    × (kindOf (bytes "print") ≡ Print)
+    × (kindOf (bytes "printex") ≡ Printex)
+    × (kindOf (bytes "if") ≡ If)
+    × (kindOf (bytes "else") ≡ Else)
+    × (kindOf (bytes "fi") ≡ Fi)
+    × (kindOf (bytes "goto") ≡ Goto)
+unfolding kindOf same
+kind-words = (refl, refl, refl, refl, refl, refl, refl, refl, refl)
+
+-- each word names its operator
+pub operator-words : (operator (bytes "eq") ≡ some Eq)
+    × (operator (bytes "ne") ≡ some Ne)
+    × (operator (bytes "lt") ≡ some Lt)
+    × (operator (bytes "le") ≡ some Le)
+    × (operator (bytes "gt") ≡ some Gt)
+    × (operator (bytes "ge") ≡ some Ge)
+unfolding operator same
+operator-words = (refl, refl, refl, refl, refl, refl)

@@ -1,0 +1,33 @@
+-- `read_if` meets its contract, for a guide and for a listing.
+use borrow.Author.Needs.{needs}
+use Rattle.lines.proofs.fields.read_if.Statement.{statement}
+use Rattle.lines.proofs.fields.read_if.Tie as tie
+
+enum-told : tie.Need-enum-told
+enum-told c = search needs
+
+read-guide-if-requires : tie.Need-read-guide-if-requires
+read-guide-if-requires c κs = search needs
+
+enum-told-2 : tie.Need-enum-told-2
+enum-told-2 c = search needs
+
+read-listing-if-requires : tie.Need-read-listing-if-requires
+read-listing-if-requires c κs = search needs
+
+returns : tie.Need-returns
+returns c = simp (c .before .enum-told .given .1) (c .read-guide-if .ensures)
+
+returns-2 : tie.Need-returns-2
+returns-2 c = simp (c .before .enum-told2 .given .1) (c .read-listing-if .ensures)
+
+pub read-if-spec : {M : Type 1} → statement M
+read-if-spec =
+    tie.close
+    (tie.spec
+    enum-told
+    read-guide-if-requires
+    enum-told-2
+    read-listing-if-requires
+    returns
+    returns-2)

@@ -1,0 +1,59 @@
+-- The words of a line: the kind that a word names, the line of each kind, and the answer of the operator's reader.
+use Prim.Native.Nat.{ℕ}
+use mathlib.Core.List.{List}
+use mathlib.Core.Bool.{cond}
+use mathlib.Core.Option.{Option, none, some}
+use Rattle.causes.specs.declared.Cause.the-variants as cause
+use Rattle.text.specs.Quoted.{bytes}
+use Rattle.text.specs.Parts.{same}
+use Rattle.transcript.specs.Statement.{print, printex}
+use Rattle.transcript.specs.declared.Op.{Op}
+use Rattle.lines.specs.declared.Form.{Form}
+use Rattle.lines.specs.declared.words.Kind.{Kind}
+use Rattle.lines.specs.declared.words.Kind.the-variants.{
+  Phrase,
+  Input,
+  Inputs,
+  Print,
+  Printex,
+  If,
+  Else,
+  Fi,
+  Goto,
+  Unknown,
+}
+use Rattle.lines.specs.declared.words.Operator.{Operator}
+use Rattle.lines.specs.declared.words.Operator.the-variants as operator
+use Rattle.lines.specs.Line.{Line, phrase, says, elseLine, fiLine, faulty}
+use Rattle.lines.specs.Line.{textLine, inputLine, inputsLine, ifFields, bareLine, gotoFields}
+
+-- the kind that a word names
+unfoldable pub kindOf : List ℕ → Kind
+kindOf w =
+    cond (same w (bytes "phrase")) Phrase
+    (cond (same w (bytes "input")) Input
+    (cond (same w (bytes "inputs")) Inputs
+    (cond (same w (bytes "print")) Print
+    (cond (same w (bytes "printex")) Printex
+    (cond (same w (bytes "if")) If
+    (cond (same w (bytes "else")) Else
+    (cond (same w (bytes "fi")) Fi
+    (cond (same w (bytes "goto")) Goto Unknown))))))))
+
+-- the line of a kind and the fields behind its word
+abbrev pub lineOfKind : Form → Kind → List (List ℕ) → Line
+lineOfKind form Phrase fs = textLine phrase fs
+lineOfKind form Input fs = inputLine fs
+lineOfKind form Inputs fs = inputsLine fs
+lineOfKind form Print fs = textLine (λ t. says (print t)) fs
+lineOfKind form Printex fs = textLine (λ t. says (printex t)) fs
+lineOfKind form If fs = ifFields form fs
+lineOfKind form Else fs = bareLine form elseLine fs
+lineOfKind form Fi fs = bareLine form fiLine fs
+lineOfKind form Goto fs = gotoFields form fs
+lineOfKind form Unknown fs = faulty cause.Kind
+
+-- of the operator's reader
+abbrev pub operatorAnswer : Option Op → Operator
+operatorAnswer none = operator.Wrong
+operatorAnswer (some op) = operator.Is op

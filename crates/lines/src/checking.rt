@@ -1,0 +1,91 @@
+// The check of a whole guide or listing.
+ghost use mathlib.Core.Path.{_≡_};
+ghost use mathlib.Core.List.{List};
+ghost use lib.ListN.{length};
+ghost use Rattle.text.specs.Text.{Text};
+ghost use Rattle.phrases.specs.Lookup.{bookTexts};
+ghost use Rattle.lines.specs.Check.{nothingSeen, checkFrom, atEnd, linesOf, mostBytes};
+ghost use Rattle.lines.specs.Held.{Sound, openIfs, seenOf};
+ghost use Rattle.lines.specs.Answers.{seenIn, checkedAnswer};
+use crate::Checked;
+use crate::Form;
+use crate::fault::Fault;
+use crate::fault::cause_of;
+use crate::line::read_line;
+use crate::seen::Seen;
+use crate::seen::advance;
+use crate::seen::nothing_seen;
+use causes::Cause;
+use causes::Refusal;
+
+// A guide or listing against this book: 2 before the lines, then line by line, and 7 at the end.
+pub fn check(form: Form, book: &[u8], text: &[u8]) -> Checked
+    ensures { λ r. ⌜ r ≡ checkedAnswer (seenIn form (bookTexts (now (book .entry))) (now (text .entry))) ⌝ }
+{
+    if most_bytes(form) < text.len() {
+        return Checked::Refused(Refusal {
+            cause: Cause::TooLong,
+            place: 0,
+        });
+    }
+    check_lines(form, book, text)
+}
+
+// How long a guide or listing may be.
+fn most_bytes(form: Form) -> usize
+    ensures { λ r. ⌜ r ≡ mostBytes form ⌝ }
+{
+    match form {
+        Form::Guide => 16384,
+        Form::Listing => 327680,
+    }
+}
+
+// The lines, of which n end before the place a.
+fn check_lines(form: Form, book: &[u8], text: &[u8]) -> Checked
+    ensures { λ r. ⌜ r ≡ checkedAnswer (checkFrom (bookTexts (now (book .entry))) 1 nothingSeen (linesOf form (now (text .entry)))) ⌝ }
+{
+    let mut s = nothing_seen();
+    let mut n = 0;
+    let mut a = 0;
+    while a < text.len() {
+        let e = text::find(text, a, b'\n');
+        if e == text.len() {
+            return Checked::Refused(Refusal {
+                cause: Cause::Byte,
+                place: n + 1,
+            });
+        }
+        let line = &text[a..e];
+        let head = read_line(form, line);
+        if let Fault::Is(cause) = cause_of(book, text, line, head, s) {
+            return Checked::Refused(Refusal {
+                cause,
+                place: n + 1,
+            });
+        }
+        s = advance(n + 1, head, s);
+        a = e + 1;
+        n += 1;
+    }
+    at_end(s)
+}
+
+// Behind the last line: 7, at the line of the innermost if, where one is open.
+fn at_end(s: Seen) -> Checked
+    requires { ⌜ Sound s ⌝ }
+    ensures { λ r. ⌜ ((own : List Text) → length own ≡ s .own → r ≡ checkedAnswer (atEnd (openIfs (s .depth) (s .opens)) (seenOf own s))) ⌝ }
+{
+    let depth = s.depth;
+    if depth == 0 {
+        return Checked::Fine {
+            own: s.own,
+            instructions: s.instructions,
+        };
+    }
+    let open = s.opens[depth - 1];
+    Checked::Refused(Refusal {
+        cause: Cause::Nesting,
+        place: open.line,
+    })
+}

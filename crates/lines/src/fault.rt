@@ -1,0 +1,98 @@
+// The cause of a line behind the lines seen: 3 to 7 and 9, the lowest where there are several.
+ghost use mathlib.Core.Path.{_≡_};
+ghost use mathlib.Core.List.{[]};
+ghost use lib.ListN.{length};
+ghost use Rattle.phrases.specs.Lookup.{bookTexts, ownTexts, phraseText};
+ghost use Rattle.transcript.specs.declared.Test as test;
+ghost use Rattle.lines.specs.Line as line;
+ghost use Rattle.lines.specs.Check as check;
+ghost use Rattle.lines.specs.Held.{Sound, seenOf, seenWith, lineWith, faultAnswer};
+use crate::Head;
+use crate::seen::Seen;
+use causes::Cause;
+use phrases::Found;
+
+// A cause, if there is one.
+pub enum Fault {
+    Absent,
+    Is(Cause),
+}
+
+// Of a line with this head, behind the lines of the text that s holds.
+pub fn cause_of(book: &[u8], text: &[u8], line: &[u8], head: Head, s: Seen) -> Fault
+    requires { ⌜ (length (ownTexts (s .own) (now text)) ≡ s .own) × Sound s ⌝ }
+    ensures { λ r. ⌜ r ≡ faultAnswer (check.causeOf (bookTexts (now (book .entry))) (seenWith (now (text .entry)) s) (lineWith (phraseText (now (line .entry))) head)) ⌝ }
+{
+    match head {
+        Head::Phrase => phrase_fault(book, text, text::part(line, b',', 1), s),
+        Head::If { test: _ } => if_fault(s),
+        Head::Else => else_fault(s),
+        Head::Fi => fi_fault(s),
+        Head::Faulty { cause } => Fault::Is(cause),
+        _ => room_fault(s),
+    }
+}
+
+// 6: a phrase behind an instruction, the 33rd, or one that is in the book or among the own phrases.
+fn phrase_fault(book: &[u8], text: &[u8], phrase: &[u8], s: Seen) -> Fault
+    requires { ⌜ length (ownTexts (s .own) (now text)) ≡ s .own ⌝ }
+    ensures { λ r. ⌜ r ≡ faultAnswer (check.phraseCause (bookTexts (now (book .entry))) (seenWith (now (text .entry)) s) (now (phrase .entry))) ⌝ }
+{
+    if s.instructions != 0 {
+        return Fault::Is(Cause::Phrase);
+    }
+    if 32 <= s.own {
+        return Fault::Is(Cause::Phrase);
+    }
+    match phrases::find_phrase(book, text, s.own, phrase) {
+        Found::InBook(_) => Fault::Is(Cause::Phrase),
+        Found::InOwn(_) => Fault::Is(Cause::Phrase),
+        Found::Nowhere => Fault::Absent,
+    }
+}
+
+// 9: the 513th instruction.
+fn room_fault(s: Seen) -> Fault
+    ensures { λ r. ⌜ r ≡ faultAnswer (check.roomCause (seenOf [] s)) ⌝ }
+{
+    if s.instructions < 512 {
+        return Fault::Absent;
+    }
+    Fault::Is(Cause::Instructions)
+}
+
+// 7: an if at the 17th level.
+fn if_fault(s: Seen) -> Fault
+    ensures { λ r. ⌜ ((x : test.Test) → r ≡ faultAnswer (check.causeOf [] (seenOf [] s) (line.ifLine x))) ⌝ }
+{
+    if 16 <= s.depth {
+        return Fault::Is(Cause::Nesting);
+    }
+    room_fault(s)
+}
+
+// 7: an `else` without its if, or a second one.
+fn else_fault(s: Seen) -> Fault
+    requires { ⌜ Sound s ⌝ }
+    ensures { λ r. ⌜ r ≡ faultAnswer (check.causeOf [] (seenOf [] s) line.elseLine) ⌝ }
+{
+    let depth = s.depth;
+    if depth == 0 {
+        return Fault::Is(Cause::Nesting);
+    }
+    let open = s.opens[depth - 1];
+    if open.turned {
+        return Fault::Is(Cause::Nesting);
+    }
+    room_fault(s)
+}
+
+// 7: a `fi` without its if.
+fn fi_fault(s: Seen) -> Fault
+    ensures { λ r. ⌜ r ≡ faultAnswer (check.causeOf [] (seenOf [] s) line.fiLine) ⌝ }
+{
+    if s.depth == 0 {
+        return Fault::Is(Cause::Nesting);
+    }
+    Fault::Absent
+}

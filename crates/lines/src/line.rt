@@ -1,0 +1,45 @@
+// One line by itself.
+ghost use mathlib.Core.Path.{_≡_};
+ghost use Rattle.lines.specs.Line as line;
+ghost use Rattle.lines.specs.Fields.{fieldsOf};
+ghost use Rattle.lines.specs.Words.{lineOfKind};
+ghost use Rattle.lines.specs.Answers.{headOf};
+use crate::Form;
+use crate::Head;
+use crate::fields::read_bare;
+use crate::fields::read_goto;
+use crate::fields::read_if;
+use crate::fields::read_input;
+use crate::fields::read_inputs;
+use crate::fields::read_text;
+use crate::words::Kind;
+use crate::words::kind_of;
+use causes::Cause;
+
+// A line, or its cause 3, 4 or 5.
+pub fn read_line(form: Form, s: &[u8]) -> Head
+    ensures { λ r. ⌜ r ≡ headOf (line.lineOf form (now (s .entry))) ⌝ }
+{
+    if text::are_allowed(s) {
+        return read_fields(form, kind_of(text::part(s, b',', 0)), s);
+    }
+    Head::Faulty { cause: Cause::Byte }
+}
+
+// A line of this kind.
+fn read_fields(form: Form, kind: Kind, s: &[u8]) -> Head
+    ensures { λ r. ⌜ r ≡ headOf (lineOfKind form kind (fieldsOf (now (s .entry)))) ⌝ }
+{
+    match kind {
+        Kind::Phrase => read_text(s, Head::Phrase),
+        Kind::Input => read_input(s),
+        Kind::Inputs => read_inputs(s),
+        Kind::Print => read_text(s, Head::Print),
+        Kind::Printex => read_text(s, Head::Printex),
+        Kind::If => read_if(form, s),
+        Kind::Else => read_bare(form, s, Head::Else),
+        Kind::Fi => read_bare(form, s, Head::Fi),
+        Kind::Goto => read_goto(form, s),
+        Kind::Unknown => Head::Faulty { cause: Cause::Kind },
+    }
+}

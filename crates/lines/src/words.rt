@@ -1,0 +1,84 @@
+// The words of a line: its kind, and the operator of an if.
+ghost use mathlib.Core.Path.{_≡_};
+ghost use Rattle.lines.specs.Line.{operator};
+ghost use Rattle.lines.specs.Words.{kindOf, operatorAnswer};
+use transcript::Op;
+
+// The kind that a line's first field names.
+pub enum Kind {
+    Phrase,
+    Input,
+    Inputs,
+    Print,
+    Printex,
+    If,
+    Else,
+    Fi,
+    Goto,
+    Unknown,
+}
+
+// What reading an operator finds.
+pub enum Operator {
+    Is(Op),
+    Wrong,
+}
+
+// The kind of a word.
+pub fn kind_of(word: &[u8]) -> Kind
+    ensures { λ r. ⌜ r ≡ kindOf (now (word .entry)) ⌝ }
+{
+    if text::same(word, b"phrase") {
+        return Kind::Phrase;
+    }
+    if text::same(word, b"input") {
+        return Kind::Input;
+    }
+    if text::same(word, b"inputs") {
+        return Kind::Inputs;
+    }
+    if text::same(word, b"print") {
+        return Kind::Print;
+    }
+    if text::same(word, b"printex") {
+        return Kind::Printex;
+    }
+    if text::same(word, b"if") {
+        return Kind::If;
+    }
+    if text::same(word, b"else") {
+        return Kind::Else;
+    }
+    if text::same(word, b"fi") {
+        return Kind::Fi;
+    }
+    if text::same(word, b"goto") {
+        return Kind::Goto;
+    }
+    Kind::Unknown
+}
+
+// The operator of a word.
+pub fn read_operator(word: &[u8]) -> Operator
+    ensures { λ r. ⌜ r ≡ operatorAnswer (operator (now (word .entry))) ⌝ }
+{
+    if text::same(word, b"eq") {
+        return Operator::Is(Op::Eq);
+    }
+    if text::same(word, b"ne") {
+        return Operator::Is(Op::Ne);
+    }
+    if text::same(word, b"lt") {
+        return Operator::Is(Op::Lt);
+    }
+    if text::same(word, b"le") {
+        return Operator::Is(Op::Le);
+    }
+    if text::same(word, b"gt") {
+        return Operator::Is(Op::Gt);
+    }
+    if text::same(word, b"ge") {
+        return Operator::Is(Op::Ge);
+    }
+    Operator::Wrong
+}

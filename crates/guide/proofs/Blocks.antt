@@ -20,6 +20,7 @@ use Rattle.guide.specs.Block.{
   lineThen,
   parse,
 }
+use Rattle.guide.specs.Lines.{bodyLines}
 
 -- the lines of a block
 unfoldable pub blockLines : Block → List Line
@@ -34,18 +35,6 @@ unfoldable pub behindLines : List Behind → List Line
 behindLines [] = []
 behindLines (fiThen rest ∷ behind) = fiLine ∷ (blockLines rest ++ behindLines behind)
 behindLines (elseThen e rest ∷ behind) = elseLine ∷ (blockLines e ++ (fiLine ∷ (blockLines rest ++ behindLines behind)))
-
--- the lines that blocks are made of: all but phrases, and but lines that no accepted guide has
-unfoldable pub bodyLines : List Line → List Line
-bodyLines [] = []
-bodyLines (phrase t ∷ ls) = bodyLines ls
-bodyLines (says x ∷ ls) = says x ∷ bodyLines ls
-bodyLines (ifLine test ∷ ls) = ifLine test ∷ bodyLines ls
-bodyLines (elseLine ∷ ls) = elseLine ∷ bodyLines ls
-bodyLines (fiLine ∷ ls) = fiLine ∷ bodyLines ls
-bodyLines (gotoLine k ∷ ls) = bodyLines ls
-bodyLines (ifSkipLine test k ∷ ls) = bodyLines ls
-bodyLines (faulty c ∷ ls) = bodyLines ls
 
 -- ---- the printed block is read back
 

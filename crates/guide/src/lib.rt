@@ -1,2 +1,32 @@
-// A guide's blocks: what an accepted guide means, and the length of a block in instructions.
-// specs/Block.antt says which block a list of lines is; specs/Guide.antt what an accepted guide holds.
+// A guide's blocks, where they stand in its text.
+// specs/Block.antt says which block a list of lines is, specs/Guide.antt what an accepted guide holds, and specs/Lines.antt what the
+// lines of blocks are from a place of the text on. A reader of the line at a place, and of the end of a block that is not walked.
+
+mod places;
+mod roles;
+
+use lines::Head;
+pub use places::line_at;
+pub use places::pass_over;
+pub use roles::begins;
+pub use roles::is_else;
+
+// What a line is in a block.
+pub enum Role {
+    // `input`, `inputs`, `print` or `printex`.
+    Statement,
+    If,
+    Else,
+    Fi,
+    // No line of a block, or no line at all.
+    Nothing,
+}
+
+// A line: its role and its head, where it starts and ends, and where the next line starts.
+pub struct Here {
+    pub role: Role,
+    pub head: Head,
+    pub start: usize,
+    pub end: usize,
+    pub next: usize,
+}

@@ -1,2 +1,9 @@
 pub mod Cases
 pub mod Waits
+pub mod Adding
+pub mod Leaving
+pub mod LineStatements
+pub mod Options
+pub mod Cycle
+pub mod WalkLines
+pub mod Whole

@@ -1,2 +1,5 @@
 pub mod Walk
 pub mod Call
+pub mod Descend
+pub mod Leaves
+pub mod Says

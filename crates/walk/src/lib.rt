@@ -1,2 +1,46 @@
 // The walker: runs a guide from its text.
 // specs/Walk.antt says what the walk of a block is; specs/Call.antt what the call answers and leaves in the lent buffer.
+// The book is checked, then the guide, and a refusal leaves the buffer as it was. The walk goes from line to line of the guide's text, as
+// specs/Descend.antt says: `block` and `statement` call each other, and a block that is not walked is passed over. It is made twice:
+// first on no buffer, to learn the transcript's length, and then on the lent one.
+
+mod blocks;
+mod leave;
+mod passes;
+mod perform;
+
+use causes::Cause;
+use causes::Ran;
+use causes::Refusal;
+use lines::Checked;
+use lines::Form;
+use phrases::Book;
+use transcript::Performed;
+ghost use mathlib.Core.Path.{_≡_};
+ghost use Rattle.causes.specs.Answers.{ranAnswer};
+ghost use Rattle.walk.specs.Call.{walkCall};
+
+// What a block leaves: the machine, the outcome and the transcript's end, and the place of the lines behind it.
+pub struct Walked {
+    pub left: Performed,
+    pub place: usize,
+}
+
+// A guide is walked on the answers, and its transcript written.
+pub fn walk(guide: &[u8], book: &[u8], answers: &[i32], transcript: &mut [u8]) -> Ran
+    ensures { λ r. ⌜ (ranAnswer r, now (transcript .exit)) ≡ walkCall (now (guide .entry)) (now (book .entry)) (now (answers .entry)) (now (transcript .entry)) ⌝ }
+{
+    match phrases::check_book(book) {
+        Book::Bad(line) => Ran::Refused(Refusal {
+            cause: Cause::Book,
+            place: line,
+        }),
+        Book::Holds(_) => match lines::check(Form::Guide, book, guide) {
+            Checked::Refused(r) => Ran::Refused(r),
+            Checked::Fine {
+                own: _,
+                instructions: _,
+            } => passes::write(guide, answers, transcript),
+        },
+    }
+}

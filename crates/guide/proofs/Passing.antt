@@ -1,0 +1,63 @@
+-- A block passed over line by line: where it stops, and where it goes on.
+use Prim.Native.Nat.{ℕ, zero, suc, _+_, _-_, _≤_, _<_}
+use native.Mathlib.Omega.{arith}
+use native.Mathlib.Numerals.{add-one, sub-one}
+use mathlib.Core.Path.{_≡_, refl, sym, ap, _∙_}
+use mathlib.Core.List.{List, [], _∷_}
+use mathlib.Core.Bool.{true, false, true≢false}
+use lib.ListN.{drop}
+use lib.Dec.{eqb}
+use borrow.Author.Tests.{eq-eqb, ne-eqb}
+use Rattle.lines.specs.Line.{Line}
+use Rattle.guide.specs.declared.Role.{Role}
+use Rattle.guide.specs.declared.Role.the-variants.{Statement, If, Else, Fi, Nothing}
+use Rattle.guide.specs.declared.Here.{Here}
+use Rattle.guide.specs.Lines.{roleOf, inBlock, linesAt, firstRole, stops, openBehind, pass, First, Reads}
+
+-- ---- the tests
+
+pub zero-stops : (d : ℕ) → eqb d 0 ≡ stops Else d
+zero-stops zero = eq-eqb 0 0 refl
+zero-stops (suc d) = ne-eqb (suc d) 0 (λ e. omega arith)
+
+pub fi-closes : (d : ℕ) → d - 1 ≡ openBehind Fi d
+fi-closes zero = refl
+fi-closes (suc d) = sub-one (suc d)
+
+-- a line at which a block does not end is one of a block
+pub goes-in : (r : Role) (d : ℕ) → stops r d ≡ false → inBlock r ≡ true
+goes-in Statement d h = refl
+goes-in If d h = refl
+goes-in Else d h = refl
+goes-in Fi d h = refl
+goes-in Nothing d h = absurd (true≢false h)
+
+pub open-more : (r : Role) (d : ℕ) → openBehind r d ≤ suc d
+open-more Statement d = omega arith
+open-more If d = omega arith
+open-more Else d = omega arith
+open-more Fi zero = omega arith
+open-more Fi (suc d) = omega arith
+open-more Nothing d = omega arith
+
+-- ---- the lines
+
+stop : (d : ℕ) (ls : List Line) → stops (firstRole ls) d ≡ true → pass d ls ≡ ls
+unfolding pass
+stop d [] h = refl
+stop d (l ∷ ls) h = rw (h, pass)
+
+go : (d : ℕ) (ls : List Line) → stops (firstRole ls) d ≡ false → pass d ls ≡ pass (openBehind (firstRole ls) d) (drop 1 ls)
+unfolding pass
+go d [] h = absurd (true≢false h)
+go d (l ∷ ls) h = rw (h, pass)
+
+module _ (g : List ℕ) (a d : ℕ) (h : Here) (r : Reads g a h) where
+  pub pass-stops : stops (h .role) d ≡ true → pass d (linesAt g a) ≡ linesAt g a
+  pass-stops v = stop d (linesAt g a) (rw (r .role) at v)
+
+  pub pass-goes : stops (h .role) d ≡ false → pass d (linesAt g a) ≡ pass (openBehind (h .role) d) (linesAt g (h .next))
+  pass-goes v = go d (linesAt g a) (rw (r .role) at v) ∙ ap (λ (x : Role). pass (openBehind x d) (drop 1 (linesAt g a))) (sym (r .role)) ∙ ap (pass (openBehind (h .role) d)) (sym (r .rest))
+
+  pub pass-further : stops (h .role) d ≡ false → a < h .next
+  pass-further v = r .first (goes-in (h .role) d v) .further

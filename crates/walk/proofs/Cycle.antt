@@ -1,0 +1,131 @@
+-- The walk over lines at each place where the code's block, its statement and the blocks of an if return.
+use Prim.Native.Nat.{ℕ, zero, suc, _-_, _<_}
+use native.Mathlib.Numerals.{sub-one}
+use mathlib.Core.Path.{_≡_, refl, sym, ap, _∙_}
+use mathlib.Core.List.{List, [], _∷_}
+use mathlib.Core.Bool.{Bool, true, false}
+use lib.ListN.{length, drop}
+use lib.IntN.{ℤ}
+use Rattle.transcript.specs.State.{State, step}
+use Rattle.transcript.specs.Machine.{machineState}
+use Rattle.lines.specs.declared.Form.the-variants.{Guide as aGuide}
+use Rattle.lines.specs.Line.{Line, lineOf}
+use Rattle.guide.specs.declared.Here.{Here}
+use Rattle.guide.specs.Lines.{firstRole, beginsBy, elseBy, linesAt, pass, lineText, Reads}
+use Rattle.guide.proofs.Reading.{begins-first}
+use Rattle.walk.specs.declared.Walked.{Walked}
+use Rattle.walk.specs.Descend.{Left, Walker, here, next, atElse, leaveTrue, leaveElse, elseBlock, walkIf, statementWith, blockWith, descend}
+use Rattle.walk.specs.Leaves.{Leaves}
+use Rattle.walk.specs.Says.{isEnd}
+use Rattle.walk.proofs.Adding.{true-adds, else-adds, descend-adds}
+use Rattle.walk.proofs.Leaving.{leaves-as, leaves-ended, leaves-goes}
+
+module _ (n : ℕ) (s : State) (ls : List Line) where
+  descend-none : n ≡ 0 → here s ls ≡ descend n s ls
+  unfolding descend
+  descend-none e = rw e
+
+  pub descend-ends : beginsBy (firstRole ls) ≡ false → here s ls ≡ descend n s ls
+  unfolding descend blockWith
+  descend-ends v = go n
+    where
+      go : (n : ℕ) → here s ls ≡ descend n s ls
+      go zero = refl
+      go (suc n) = rw v
+
+  descend-more : (n ≡ 0 → ⊥) → beginsBy (firstRole ls) ≡ true → next (statementWith (descend (n - 1)) s ls) (descend (n - 1)) ≡ descend n s ls
+  unfolding descend blockWith
+  descend-more e v = go n e
+    where
+      go : (n : ℕ) → (n ≡ 0 → ⊥) → next (statementWith (descend (n - 1)) s ls) (descend (n - 1)) ≡ descend n s ls
+      go zero e = absurd (e refl)
+      go (suc n) e = rw (sub-one, v)
+
+-- ---- behind the blocks of an if
+
+module _ (g : List ℕ) (a : ℕ) (h : Here) (r : Reads g a h) where
+  at-else : {v : Bool} → elseBy (h .role) ≡ v → atElse (linesAt g a) ≡ v
+  at-else e = ap elseBy (sym (r .role)) ∙ e
+
+  -- the else block is passed over
+  pub leave-turned : (p : ℕ) (f : Here) (s t : State) → elseBy (h .role) ≡ true → linesAt g p ≡ pass 0 (linesAt g (h .next)) → Reads g p f
+      → t ≡ step s → here t (linesAt g (f .next)) ≡ leaveTrue s (linesAt g a)
+  unfolding leaveTrue
+  leave-turned p f s t v e q c =
+      let behind : linesAt g (f .next) ≡ drop 1 (pass 0 (drop 1 (linesAt g a))) = q .rest ∙ ap (drop 1) (e ∙ ap (pass 0) (r .rest)) in
+      rw (at-else v, behind, c) refl
+
+  pub leave-closed : (s : State) → elseBy (h .role) ≡ false → here s (linesAt g (h .next)) ≡ leaveTrue s (linesAt g a)
+  unfolding leaveTrue
+  leave-closed s v = rw (at-else v, r .rest) refl
+
+  pub leave-second : (s : State) → here s (linesAt g (h .next)) ≡ leaveElse s (linesAt g a)
+  unfolding leaveElse
+  leave-second s = rw (r .rest) refl
+
+-- ---- what is left
+
+module _ (g : List ℕ) (answers : List ℤ) (at : ℕ) (out : List ℕ) where
+  pub block-none : (n a : ℕ) (s : State) (w : Walked) (o : List ℕ) → n ≡ 0 → Leaves g answers w o at (here s (linesAt g a)) out
+      → Leaves g answers w o at (descend n s (linesAt g a)) out
+  block-none n a s w o e f = leaves-as g answers w o at _ out f _ (descend-none n s (linesAt g a) e)
+
+  pub block-ends : (n a : ℕ) (s : State) (h : Here) (w : Walked) (o : List ℕ) → Reads g a h → beginsBy (h .role) ≡ false
+      → Leaves g answers w o at (here s (linesAt g a)) out → Leaves g answers w o at (descend n s (linesAt g a)) out
+  block-ends n a s h w o r v f = leaves-as g answers w o at _ out f _ (descend-ends n s (linesAt g a) (ap beginsBy (sym (r .role)) ∙ v))
+
+  -- a statement begins at a, and its line is h
+  module _ (n a : ℕ) (s : State) (h : Here) (r : Reads g a h) (v : beginsBy (h .role) ≡ true) (e : n ≡ 0 → ⊥) (w : Walked) (o : List ℕ)
+      (f : Leaves g answers w o at (statementWith (descend (n - 1)) s (lineOf aGuide (lineText g h) ∷ linesAt g (h .next))) out) where
+    begun : next (statementWith (descend (n - 1)) s (lineOf aGuide (lineText g h) ∷ linesAt g (h .next))) (descend (n - 1))
+        ≡ descend n s (linesAt g a)
+    begun =
+        ap (λ (ls : List Line). next (statementWith (descend (n - 1)) s ls) (descend (n - 1))) (sym (begins-first g a h r v .lines))
+        ∙ descend-more n s (linesAt g a) e (ap beginsBy (sym (r .role)) ∙ v)
+
+    pub block-ended : isEnd (w .left .outcome) ≡ false → Leaves g answers w o at (descend n s (linesAt g a)) out
+    block-ended i = leaves-as g answers w o at _ out (leaves-ended g answers w o at _ out f (descend (n - 1)) i) _ begun
+
+    pub block-goes : (x : Walked) (new : List ℕ) → isEnd (w .left .outcome) ≡ true
+        → Leaves g answers x new (w .left .end) (descend (n - 1) (machineState answers (w .left .machine)) (linesAt g (w .place))) o
+        → length out < 9223372036854775808 → Leaves g answers x new at (descend n s (linesAt g a)) out
+    block-goes x new i k l =
+        leaves-as g answers x new at _ out
+        (leaves-goes g answers w o at _ out f (descend (n - 1)) x new i (descend-adds (n - 1)) k l)
+        _
+        begun
+
+  -- ---- the true block
+
+  module _ (n : ℕ) (s : State) (ls : List Line) (w : Walked) (o : List ℕ) (f : Leaves g answers w o at (descend n s ls) out) where
+    pub true-ended : isEnd (w .left .outcome) ≡ false → Leaves g answers w o at (walkIf true (descend n) s ls) out
+    unfolding walkIf
+    true-ended i = leaves-ended g answers w o at _ out f leaveTrue i
+
+    pub true-goes : (x : Walked) (new : List ℕ) → isEnd (w .left .outcome) ≡ true
+        → Leaves g answers x new (w .left .end) (leaveTrue (machineState answers (w .left .machine)) (linesAt g (w .place))) o
+        → length out < 9223372036854775808 → Leaves g answers x new at (walkIf true (descend n) s ls) out
+    unfolding walkIf
+    true-goes x new i k l = leaves-goes g answers w o at _ out f leaveTrue x new i true-adds k l
+
+  -- ---- the else block: the true block has been passed over, and h is the first line from its end p on
+
+  module _ (n a p : ℕ) (s : State) (h : Here) (e : linesAt g p ≡ pass 0 (linesAt g a)) (r : Reads g p h) where
+    pub no-else : (w : Walked) (o : List ℕ) → elseBy (h .role) ≡ false → Leaves g answers w o at (here s (linesAt g (h .next))) out
+        → Leaves g answers w o at (walkIf false (descend n) s (linesAt g a)) out
+    unfolding walkIf elseBlock
+    no-else w o v f = leaves-as g answers w o at _ out f _ (rw (← e, at-else g p h r v, r .rest) refl)
+
+    module _ (v : elseBy (h .role) ≡ true) (w : Walked) (o : List ℕ) (f : Leaves g answers w o at (descend n s (linesAt g (h .next))) out) where
+      turned : next (descend n s (linesAt g (h .next))) leaveElse ≡ walkIf false (descend n) s (linesAt g a)
+      unfolding walkIf elseBlock
+      turned = rw (← e, at-else g p h r v, r .rest) refl
+
+      pub else-ended : isEnd (w .left .outcome) ≡ false → Leaves g answers w o at (walkIf false (descend n) s (linesAt g a)) out
+      else-ended i = leaves-as g answers w o at _ out (leaves-ended g answers w o at _ out f leaveElse i) _ turned
+
+      pub else-goes : (x : Walked) (new : List ℕ) → isEnd (w .left .outcome) ≡ true
+          → Leaves g answers x new (w .left .end) (leaveElse (machineState answers (w .left .machine)) (linesAt g (w .place))) o
+          → length out < 9223372036854775808 → Leaves g answers x new at (walkIf false (descend n) s (linesAt g a)) out
+      else-goes x new i k l =
+          leaves-as g answers x new at _ out (leaves-goes g answers w o at _ out f leaveElse x new i else-adds k l) _ turned

@@ -1,0 +1,19 @@
+-- `leave_else` meets its contract: the `fi` is passed.
+use native.Mathlib.Omega.{arith}
+use Rattle.walk.proofs.Leaving.{leaves-as}
+use Rattle.walk.proofs.Cycle.{leave-second}
+use borrow.Author.Needs.{needs}
+use Rattle.walk.proofs.leave.leave_else.Statement.{statement}
+use Rattle.walk.proofs.leave.leave_else.Tie as tie
+
+line-at-requires : tie.Need-line-at-requires
+line-at-requires c κs = search needs
+
+here-requires : tie.Need-here-requires
+here-requires c κs = search needs
+
+returns : tie.Need-returns
+returns c = ((λ answers out. leaves-as _ _ _ _ _ _ _ (c .here .ensures .0 _ answers out) _ (leave-second _ _ _ (c .before .line-at .ensures) _)), search needs)
+
+pub leave-else-spec : {M : Type 1} → statement M
+leave-else-spec = tie.close (tie.spec line-at-requires here-requires returns)

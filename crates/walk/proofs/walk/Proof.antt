@@ -1,0 +1,55 @@
+-- `walk` meets its contract: the book's refusal, the guide's, or what the two passes leave.
+use mathlib.Core.Path.{sym, _∙_}
+use Rattle.walk.proofs.Whole.{call-book, call-guide, call-walked}
+use borrow.Author.Needs.{needs}
+use Rattle.walk.proofs.walk.Statement.{statement}
+use Rattle.walk.proofs.walk.Tie as tie
+
+check-book-requires : tie.Need-check-book-requires
+check-book-requires c κs = search needs
+
+enum-known-line : tie.Need-enum-known-line
+enum-known-line c = search needs
+
+enum-told : tie.Need-enum-told
+enum-told c = search needs
+
+check-requires : tie.Need-check-requires
+check-requires c κs = search needs
+
+enum-known-r : tie.Need-enum-known-r
+enum-known-r c = search needs
+
+enum-told-2 : tie.Need-enum-told-2
+enum-told-2 c = search needs
+
+write-requires : tie.Need-write-requires
+write-requires c κs = search needs
+
+returns : tie.Need-returns
+returns c = call-book _ _ _ _ _ (sym (c .before .before .before .check-book .ensures) ∙ c .before .line .given .1)
+
+returns-2 : tie.Need-returns-2
+returns-2 c = call-guide _ _ _ _ _ _ (sym (c .before .before .before .before .before .before .check-book .ensures) ∙ c .before .before .before .before .enum-told .given .1) (sym (c .before .before .before .check .ensures) ∙ c .before .r .given .1)
+
+same-length : tie.Need-same-length
+same-length c = search needs
+
+returns-3 : tie.Need-returns-3
+returns-3 c = call-walked _ _ _ _ _ _ _ _ (sym (c .before .before .before .before .before .before .before .before .before .check-book .ensures) ∙ c .before .before .before .before .before .before .before .enum-told .given .1) (sym (c .before .before .before .before .before .before .check .ensures) ∙ c .before .before .before .before .enum-told2 .given .1) (c .before .before .write .ensures)
+
+pub walk-spec : {M : Type 1} → statement M
+walk-spec =
+    tie.close
+    (tie.spec
+    check-book-requires
+    enum-known-line
+    enum-told
+    check-requires
+    enum-known-r
+    enum-told-2
+    write-requires
+    returns
+    returns-2
+    same-length
+    returns-3)

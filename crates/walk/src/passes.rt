@@ -1,0 +1,51 @@
+// The walk in two passes.
+use crate::blocks::block;
+use causes::Cause;
+use causes::Ran;
+use causes::Refusal;
+use causes::Report;
+use transcript::Performed;
+ghost use mathlib.Core.Path.{_≡_};
+ghost use Rattle.causes.specs.Answers.{made, lent, ranAnswer};
+ghost use Rattle.transcript.specs.Perform.{report};
+ghost use Rattle.transcript.specs.Machine.{laid, performed};
+ghost use Rattle.walk.specs.Descend.{walkText};
+
+// The walk over a guide's lines: the buffer takes as much of the transcript as it has room for.
+fn produce(guide: &[u8], answers: &[i32], out: &mut [u8]) -> Performed
+    ensures { λ r. ⌜ performed (now (answers .entry)) r (now (out .exit)) ≡ laid 0 (walkText (now (guide .entry)) (now (answers .entry))) (now (out .entry)) ⌝ }
+{
+    let w = block(
+        guide,
+        answers,
+        out,
+        guide.len() + 2,
+        0,
+        0,
+        transcript::fresh(),
+    );
+    w.left
+}
+
+// The walk of an accepted guide: first on no buffer, to learn the transcript's length; then 11, or the transcript is written.
+pub fn write(guide: &[u8], answers: &[i32], transcript: &mut [u8]) -> Ran
+    ensures { λ r. ⌜ (ranAnswer r, now (transcript .exit)) ≡ lent (made (report (walkText (now (guide .entry)) (now (answers .entry))))) (now (transcript .entry)) ⌝ }
+{
+    let p = produce(guide, answers, &mut []);
+    let length = p.end;
+    if transcript.len() < length {
+        return Ran::Refused(Refusal {
+            cause: Cause::TooShort,
+            place: 0,
+        });
+    }
+    let p = produce(guide, answers, transcript);
+    let outcome = p.outcome;
+    let m = p.machine;
+    Ran::Done(Report {
+        length,
+        outcome,
+        taken: m.taken,
+        steps: m.steps,
+    })
+}

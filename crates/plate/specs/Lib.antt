@@ -2,4 +2,3 @@ pub mod Program
 pub mod Writing
 pub mod Reading
 pub mod Plate
-pub mod Places

@@ -1,0 +1,7 @@
+pub mod Onward
+pub mod Characters
+pub mod CharacterBits
+pub mod Copied
+pub mod Answers
+pub mod SignedRead
+pub mod Ops

@@ -1,0 +1,49 @@
+// Numbers of a plate: read, judged, and refused at their first bit.
+ghost use mathlib.Core.Path.{_≡_};
+ghost use Prim.Native.Nat.{_≤_};
+ghost use lib.ListN.{length};
+ghost use lib.Dec.{leb};
+ghost use Rattle.plate.specs.Reading.{number, judged};
+ghost use Rattle.plate.specs.Plate as reader;
+ghost use Rattle.fields.specs.Places.{placeAt, fieldRead};
+use crate::Field;
+use bits::Number;
+use causes::Cause;
+use causes::Refusal;
+
+// A number of so many bits.
+pub fn read_plain(plate: &[u8], at: usize, width: usize) -> Field
+    requires { ⌜ (width ≤ 32) × (length (now plate) ≤ 2953) ⌝ }
+    ensures { λ r. ⌜ fieldRead (now (plate .entry)) r ≡ number width (placeAt (now (plate .entry)) at) ⌝ }
+{
+    let Number::Is(value) = bits::read_number(plate, at, width) else {
+        return Field::Refused(Refusal {
+            cause: Cause::PlateEnds,
+            place: at,
+        });
+    };
+    Field::Is(value as usize, at + width)
+}
+
+// A number of so many bits; the cause where it is over the most.
+pub fn read_field(plate: &[u8], at: usize, width: usize, most: usize, cause: Cause) -> Field
+    requires { ⌜ (width ≤ 32) × (length (now plate) ≤ 2953) ⌝ }
+    ensures { λ r. ⌜ fieldRead (now (plate .entry)) r ≡ judged (number width) (λ v. leb v most) cause (placeAt (now (plate .entry)) at) ⌝ }
+{
+    let field = read_plain(plate, at, width);
+    let Field::Is(value, _) = field else {
+        return field;
+    };
+    if most < value {
+        return Field::Refused(Refusal { cause, place: at });
+    }
+    field
+}
+
+// A skip, over at most so many instructions.
+pub fn read_skip(plate: &[u8], at: usize, behind: usize) -> Field
+    requires { ⌜ length (now plate) ≤ 2953 ⌝ }
+    ensures { λ r. ⌜ fieldRead (now (plate .entry)) r ≡ reader.skip behind (placeAt (now (plate .entry)) at) ⌝ }
+{
+    read_field(plate, at, 9, behind, Cause::Skip)
+}

@@ -1,0 +1,4 @@
+pub mod TextAnswers
+pub mod PhraseRead
+pub mod TextsRead
+pub mod FieldsRead

@@ -1,0 +1,91 @@
+-- A phrase by its place, as the code reads it.
+use Prim.Native.Nat.{ℕ, zero, suc, _-_, _≤_, _<_}
+use mathlib.Core.Path.{_≡_, refl, sym, ap, _∙_}
+use mathlib.Core.List.{List, [], _∷_}
+use mathlib.Core.Bool.{Bool, true, false}
+use native.Mathlib.Numerals.{sub-one}
+use native.Mathlib.Omega.{arith}
+use lib.ListN.{length, getD}
+use lib.Dec.{leb, ltb, leb·suc-suc}
+use borrow.Author.Tests.{ltb-true}
+use Rattle.causes.specs.declared.Cause.the-variants.{Unused}
+use Rattle.text.specs.Text.{Text}
+use Rattle.phrases.specs.Phrases.{width}
+use Rattle.phrases.specs.Lookup.{bookTexts, ownTexts, phraseIn}
+use Rattle.phrases.proofs.Width.{width-least}
+use Rattle.phrases.proofs.Texts.{phrase-in-own, phrase-in-book}
+use Rattle.fields.specs.declared.Field.{Field}
+use Rattle.fields.specs.declared.Field.the-variants.{Is, Refused}
+use Rattle.instructions.specs.declared.TextRead.{TextRead}
+use Rattle.plate.specs.Reading.{Place, got, Reader, number, judged, return, _>>=_}
+use Rattle.plate.specs.Plate.{phraseAt, phraseBy, phrase}
+use Rattle.fields.specs.Places.{placeAt, fieldRead}
+use Rattle.instructions.specs.TextsAt.{textAt, textsRead, phraseOf}
+use Rattle.plate.proofs.Readers.{gives-number, gives-judged}
+use Rattle.fields.proofs.Onward.{then-got, then-stopped, judged-alike, got-good}
+
+-- ---- the place
+
+pub width-small : (n : ℕ) → n ≤ 256 → width n ≤ 32
+width-small n h = omega (arith, width-least n 8 h)
+
+-- below n is at most one less
+pub place-alike : (n : ℕ) (r : Reader ℕ) (plate : List ℕ) (at : ℕ) → 0 < n
+    → judged r (λ i. leb i (n - 1)) Unused (placeAt plate at) ≡ judged r (λ i. ltb i n) Unused (placeAt plate at)
+place-alike zero r plate at h = absurd (omega arith)
+place-alike (suc n) r plate at h =
+    judged-alike r (λ i. ltb i (suc n)) Unused plate at (λ i. leb i (suc n - 1)) (λ i. rw sub-one (sym (leb·suc-suc i n)))
+
+-- ---- the phrase there
+
+module _ (plate book own : List ℕ) (at : ℕ) (isOwn : Bool) (ts : List Text)
+    (there : (i : ℕ) → i < length ts → phraseIn book own isOwn i ≡ getD ts i []) where
+  phrase-there : (f : Field) → fieldRead plate f ≡ judged (number (width (length ts))) (λ i. ltb i (length ts)) Unused (placeAt plate at)
+      → textsRead plate book own (phraseOf f isOwn) ≡ phraseAt ts (placeAt plate at)
+  unfolding phraseAt textAt return
+  phrase-there (Is i next) e =
+      let good = got-good (placeAt plate at) (gives-judged (λ i. ltb i (length ts)) Unused (gives-number (width (length ts)))) e in
+      ap (λ t. got t (placeAt plate next)) (there i (ltb-true i (length ts) (good .1)))
+      ∙ then-got _ (λ i. return (getD ts i [])) (placeAt plate at) e
+  phrase-there (Refused r) e = then-stopped _ (λ i. return (getD ts i [])) (placeAt plate at) e
+
+module _ (plate book own : List ℕ) (at count n : ℕ) (f : Field) (r : TextRead)
+    (e : fieldRead plate f ≡ judged (number (width n)) (λ i. ltb i n) Unused (placeAt plate at)) where
+  pub own-there : length (ownTexts count own) ≡ count → n ≡ count → r ≡ phraseOf f true
+      → textsRead plate book own r ≡ phraseAt (ownTexts count own) (placeAt plate at)
+  own-there whole z k =
+      let all : n ≡ length (ownTexts count own) = z ∙ sym whole in
+      rw k
+      (phrase-there plate book own at true (ownTexts count own) (λ i h. phrase-in-own book own i count (omega arith)) f (rw all at e))
+
+  pub book-there : n ≡ length (bookTexts book) → r ≡ phraseOf f false
+      → textsRead plate book own r ≡ phraseAt (bookTexts book) (placeAt plate at)
+  book-there z k = rw k (phrase-there plate book own at false (bookTexts book) (λ i h. phrase-in-book book own i h) f (rw z at e))
+
+-- ---- book or own
+
+pub only-own : (book own : List Text) (p : Place) → length book ≡ 0 → phraseAt own p ≡ phrase book own p
+unfolding phrase
+only-own [] own p h = refl
+only-own (t ∷ ts) own p h = absurd (omega arith)
+
+pub only-book : (book own : List Text) (p : Place) → (length book ≡ 0 → ⊥) → length own ≡ 0 → phraseAt book p ≡ phrase book own p
+unfolding phrase
+only-book [] own p h k = absurd (h refl)
+only-book (t ∷ ts) [] p h k = refl
+only-book (t ∷ ts) (u ∷ us) p h k = absurd (omega arith)
+
+pub both : (book own : List Text) (p : Place) → (length book ≡ 0 → ⊥) → (length own ≡ 0 → ⊥)
+    → (number 1 >>= phraseBy book own) p ≡ phrase book own p
+unfolding phrase
+both [] own p h k = absurd (h refl)
+both (t ∷ ts) [] p h k = absurd (k refl)
+both (t ∷ ts) (u ∷ us) p h k = refl
+
+-- the bit
+pub bit-book : (book own : List Text) (q : Place) (b : ℕ) → b ≡ 0 → phraseAt book q ≡ phraseBy book own b q
+bit-book book own q b z = rw z
+
+pub bit-own : (book own : List Text) (q : Place) (b : ℕ) → (b ≡ 0 → ⊥) → phraseAt own q ≡ phraseBy book own b q
+bit-own book own q zero h = absurd (h refl)
+bit-own book own q (suc b) h = refl

@@ -1,0 +1,69 @@
+-- `read_if` meets its contract: the test, then the skip.
+use mathlib.Core.Path.{_∙_}
+use borrow.Author.Needs.{needs}
+use Rattle.plate.specs.Reading.{return}
+use Rattle.instructions.specs.TextsAt.{instructionAt}
+use Rattle.fields.proofs.Onward.{then-got, then-stopped}
+use Rattle.fields.proofs.Answers.{field-got, field-stopped, test-got, test-stopped}
+use Rattle.instructions.proofs.instruction_at.read_if.Statement.{statement}
+use Rattle.instructions.proofs.instruction_at.read_if.Tie as tie
+
+read-test-requires : tie.Need-read-test-requires
+read-test-requires c κs = search needs
+
+enum-known-first : tie.Need-enum-known-first
+enum-known-first c = search needs
+
+enum-told : tie.Need-enum-told
+enum-told c = search needs
+
+refusal-requires : tie.Need-refusal-requires
+refusal-requires c κs = search needs
+
+returns : tie.Need-returns
+returns c =
+    λ book own count. then-stopped _ _ _
+    (test-stopped _ _ (c .before .before .before .read-test .ensures) (c .before .enum-told .given .1) (c .refusal .ensures))
+
+read-skip-requires : tie.Need-read-skip-requires
+read-skip-requires c κs = search needs
+
+enum-known-second : tie.Need-enum-known-second
+enum-known-second c = search needs
+
+enum-told-2 : tie.Need-enum-told-2
+enum-told-2 c = search needs
+
+refusal-requires-2 : tie.Need-refusal-requires-2
+refusal-requires-2 c κs = search needs
+
+returns-2 : tie.Need-returns-2
+returns-2 c =
+    λ book own count. then-stopped _ _ _
+    (field-stopped _ _ (c .before .before .before .read-skip .ensures) (c .before .enum-told2 .given .1) (c .refusal2 .ensures))
+    ∙ then-got _ _ _
+    (test-got _ _ (c .before .before .before .before .before .before .before .read-test .ensures)
+    (c .before .before .before .before .before .first .given .1))
+
+returns-3 : tie.Need-returns-3
+unfolding instructionAt return
+returns-3 c = λ book own count. then-got _ _ _ (field-got _ _ (c .before .before .before .read-skip .ensures) (c .before .second .given .1))
+    ∙ then-got _ _ _
+    (test-got _ _ (c .before .before .before .before .before .before .before .read-test .ensures)
+    (c .before .before .before .before .before .first .given .1))
+
+pub read-if-spec : {M : Type 1} → statement M
+read-if-spec =
+    tie.close
+    (tie.spec
+    read-test-requires
+    enum-known-first
+    enum-told
+    refusal-requires
+    returns
+    read-skip-requires
+    enum-known-second
+    enum-told-2
+    refusal-requires-2
+    returns-2
+    returns-3)

@@ -1,0 +1,112 @@
+-- `read_text` meets its contract: the code, then characters or a phrase.
+use Prim.Native.Nat.{_+_}
+use mathlib.Core.Path.{_≡_, _∙_}
+use native.Mathlib.Omega.{arith}
+use borrow.Author.Needs.{needs}
+use Rattle.phrases.specs.Lookup.{phrasesIn}
+use Rattle.causes.specs.declared.Cause.the-variants.{Unused}
+use Rattle.plate.specs.Reading.{number, judged}
+use Rattle.fields.specs.Places.{placeAt, fieldRead}
+use Rattle.instructions.specs.TextsAt.{textAt}
+use Rattle.plate.specs.Plate as reader
+use Rattle.fields.proofs.Onward.{then-got, then-stopped}
+use Rattle.fields.proofs.Answers.{field-got, field-stopped, size-got, size-stopped}
+use Rattle.instructions.proofs.TextsRead.{text-code, some-phrase, by-spelled, by-phrase}
+use Rattle.instructions.proofs.text_at.read_text.Statement.{statement}
+use Rattle.instructions.proofs.text_at.read_text.Tie as tie
+
+-- the code, as the reader judges it
+code-read : (c : tie.After-read-code) →
+    let a = c .before .before .before .before .before .args in
+    fieldRead (a .plate .now) (c .read-code .result)
+    ≡ judged (number 2) (reader.isTextCode (phrasesIn (a .book .now) (a .own .now) (a .count))) Unused (placeAt (a .plate .now) (a .at))
+code-read c =
+    let b = c .before .before .before .before .before in
+    c .read-code .ensures
+    ∙ text-code (phrasesIn (b .args .book .now) (b .args .own .now) (b .args .count)) (c .before .count-texts .result + b .args .count) _ _
+    (omega (arith, c .before .count-texts .ensures, b .pre .whole))
+
+count-texts-requires : tie.Need-count-texts-requires
+count-texts-requires c κs = search needs
+
+add-read-code : tie.Need-add-read-code
+add-read-code c = search needs
+
+read-code-requires : tie.Need-read-code-requires
+read-code-requires c κs = search needs
+
+enum-known-field : tie.Need-enum-known-field
+enum-known-field c = search needs
+
+enum-told : tie.Need-enum-told
+enum-told c = search needs
+
+refusal-requires : tie.Need-refusal-requires
+refusal-requires c κs = search needs
+
+returns : tie.Need-returns
+unfolding reader.text
+returns c =
+    then-stopped _ _ _ (field-stopped _ _ (code-read (c .before .before .before)) (c .before .enum-told .given .1) (c .refusal .ensures))
+
+read-phrase-requires : tie.Need-read-phrase-requires
+read-phrase-requires c κs = let some =
+    some-phrase _ _ _ _ (field-got _ _ (c .before .before .before .before .read-code .ensures) (c .before .before .field .given .1))
+    (c .if1 .taken) in
+    (search needs, omega (arith, some, c .before .before .before .before .before .count-texts .ensures))
+
+returns-2 : tie.Need-returns-2
+unfolding reader.text
+returns-2 c =
+    c .read-phrase .ensures ∙ by-phrase _ _ _ (c .before .if1 .taken)
+    ∙ then-got _ _ _ (field-got _ _ (code-read (c .before .before .before .before .before)) (c .before .before .before .field .given .1))
+
+read-spelled-requires : tie.Need-read-spelled-requires
+read-spelled-requires c κs = search needs
+
+enum-known-spelled : tie.Need-enum-known-spelled
+enum-known-spelled c = search needs
+
+enum-told-2 : tie.Need-enum-told-2
+enum-told-2 c = search needs
+
+refusal-requires-2 : tie.Need-refusal-requires-2
+refusal-requires-2 c κs = search needs
+
+returns-3 : tie.Need-returns-3
+unfolding reader.text
+returns-3 c =
+    size-stopped _ _ _ (c .before .before .before .read-spelled .ensures) (c .before .enum-told2 .given .1) (c .refusal2 .ensures)
+    ∙ by-spelled _ _ _ (c .before .before .before .before .if1 .left)
+    ∙ then-got _ _ _
+    (field-got _ _ (code-read (c .before .before .before .before .before .before .before .before))
+    (c .before .before .before .before .before .before .field .given .1))
+
+returns-4 : tie.Need-returns-4
+unfolding reader.text textAt
+returns-4 c =
+    size-got _ _ _ (c .before .before .before .read-spelled .ensures) (c .before .spelled .given .1)
+    ∙ by-spelled _ _ _ (c .before .before .before .before .if1 .left)
+    ∙ then-got _ _ _
+    (field-got _ _ (code-read (c .before .before .before .before .before .before .before .before))
+    (c .before .before .before .before .before .before .field .given .1))
+
+pub read-text-spec : {M : Type 1} → statement M
+read-text-spec =
+    tie.close
+    (tie.spec
+    count-texts-requires
+    add-read-code
+    read-code-requires
+    enum-known-field
+    enum-told
+    refusal-requires
+    returns
+    read-phrase-requires
+    returns-2
+    read-spelled-requires
+    enum-known-spelled
+    enum-told-2
+    refusal-requires-2
+    returns-3
+    returns-4)

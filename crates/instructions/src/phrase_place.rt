@@ -1,0 +1,58 @@
+// A phrase by its place: in the book, or among the own phrases.
+ghost use mathlib.Core.Path.{_≡_};
+ghost use Prim.Native.Nat.{_+_, _≤_, _<_};
+ghost use lib.ListN.{length};
+ghost use lib.Dec.{ltb};
+ghost use Rattle.causes.specs.declared.Cause.the-variants.{Unused};
+ghost use Rattle.phrases.specs.Phrases.{width};
+ghost use Rattle.phrases.specs.Lookup.{bookTexts, ownTexts};
+ghost use Rattle.plate.specs.Reading.{number, judged};
+ghost use Rattle.plate.specs.Plate.{phrase};
+ghost use Rattle.fields.specs.Places.{placeAt, fieldRead};
+ghost use Rattle.instructions.specs.TextsAt.{phraseOf, textsRead, Lent};
+use fields::Field;
+use crate::TextAt;
+use crate::TextRead;
+use fields::read_field;
+use fields::read_plain;
+use causes::Cause;
+
+// The place of a phrase among n, in the fewest bits that number them.
+fn read_place(plate: &[u8], at: usize, n: usize) -> Field
+    requires { ⌜ (length (now plate) ≤ 2953) × (0 < n) × (n ≤ 256) ⌝ }
+    ensures { λ r. ⌜ fieldRead (now (plate .entry)) r ≡ judged (number (width n)) (λ i. ltb i n) Unused (placeAt (now (plate .entry)) at) ⌝ }
+{
+    read_field(plate, at, phrases::width_of(n), n - 1, Cause::Unused)
+}
+
+// The phrase at a place that was read.
+fn phrase_of(field: Field, own: bool) -> TextRead
+    ensures { λ r. ⌜ r ≡ phraseOf field own ⌝ }
+{
+    match field {
+        Field::Is(place, next) => TextRead::Is(TextAt::Phrase { own, place }, next),
+        Field::Refused(r) => TextRead::Refused(r),
+    }
+}
+
+// A phrase: one bit for book or own, where both have phrases, and its place.
+pub fn read_phrase(plate: &[u8], at: usize, book: &[u8], own: &[u8], count: usize) -> TextRead
+    requires { ⌜ Lent (now plate) (now book) (now own) count × (0 < length (bookTexts (now book)) + count) ⌝ }
+    ensures { λ r. ⌜ textsRead (now (plate .entry)) (now (book .entry)) (now (own .entry)) r ≡ phrase (bookTexts (now (book .entry))) (ownTexts count (now (own .entry))) (placeAt (now (plate .entry)) at) ⌝ }
+{
+    let texts = phrases::count_texts(book);
+    if texts == 0 {
+        return phrase_of(read_place(plate, at, count), true);
+    }
+    if count == 0 {
+        return phrase_of(read_place(plate, at, texts), false);
+    }
+    let field = read_plain(plate, at, 1);
+    let Field::Is(bit, next) = field else {
+        return TextRead::Refused(field.refusal());
+    };
+    if bit == 0 {
+        return phrase_of(read_place(plate, next, texts), false);
+    }
+    phrase_of(read_place(plate, next, count), true)
+}

@@ -1,0 +1,20 @@
+// The refusal that an answer is, for the `else` of a let. Nothing asks an answer that is no refusal.
+ghost use mathlib.Core.Path.{_≡_};
+ghost use Rattle.instructions.specs.TextsAt.{textRefusal};
+use crate::TextRead;
+use causes::Cause;
+use causes::Refusal;
+
+impl TextRead {
+    pub fn refusal(self) -> Refusal
+        ensures { λ r. ⌜ r ≡ textRefusal self ⌝ }
+    {
+        match self {
+            TextRead::Refused(r) => r,
+            TextRead::Is(_, next) => Refusal {
+                cause: Cause::PlateEnds,
+                place: next,
+            },
+        }
+    }
+}

@@ -1,0 +1,84 @@
+// Texts of a plate: spelled out, or a phrase; and several, one behind the other.
+ghost use mathlib.Core.Path.{_≡_};
+ghost use Prim.Native.Nat.{_+_, _≤_};
+ghost use lib.ListN.{length};
+ghost use Rattle.causes.specs.declared.Cause.the-variants.{Unused};
+ghost use Rattle.phrases.specs.Lookup.{phrasesIn};
+ghost use Rattle.plate.specs.Reading.{number, judged, many};
+ghost use Rattle.plate.specs.Plate as reader;
+ghost use Rattle.fields.specs.Places.{placeAt, fieldRead, endWith};
+ghost use Rattle.instructions.specs.TextsAt.{textsRead, codeWith, Lent};
+use fields::Field;
+use crate::TextAt;
+use crate::TextRead;
+use fields::read_plain;
+use crate::phrase_place::read_phrase;
+use crate::spelled_text::read_spelled;
+use causes::Cause;
+use causes::Refusal;
+
+// Whether a code of a text is used, with so many phrases.
+fn is_code(code: usize, n: usize) -> bool
+    ensures { λ r. ⌜ r ≡ codeWith n code ⌝ }
+{
+    match code {
+        0 => true,
+        2 => 1 <= n,
+        _ => false,
+    }
+}
+
+// The code of a text, with so many phrases.
+fn read_code(plate: &[u8], at: usize, n: usize) -> Field
+    requires { ⌜ length (now plate) ≤ 2953 ⌝ }
+    ensures { λ r. ⌜ fieldRead (now (plate .entry)) r ≡ judged (number 2) (codeWith n) Unused (placeAt (now (plate .entry)) at) ⌝ }
+{
+    let field = read_plain(plate, at, 2);
+    let Field::Is(code, _) = field else {
+        return field;
+    };
+    if is_code(code, n) {
+        return field;
+    }
+    Field::Refused(Refusal {
+        cause: Cause::Unused,
+        place: at,
+    })
+}
+
+// A text.
+pub fn read_text(plate: &[u8], at: usize, book: &[u8], own: &[u8], count: usize) -> TextRead
+    requires { ⌜ Lent (now plate) (now book) (now own) count ⌝ }
+    ensures { λ r. ⌜ textsRead (now (plate .entry)) (now (book .entry)) (now (own .entry)) r ≡ reader.text (phrasesIn (now (book .entry)) (now (own .entry)) count) (placeAt (now (plate .entry)) at) ⌝ }
+{
+    let field = read_code(plate, at, phrases::count_texts(book) + count);
+    let Field::Is(code, bit) = field else {
+        return TextRead::Refused(field.refusal());
+    };
+    if code != 0 {
+        return read_phrase(plate, bit, book, own, count);
+    }
+    let spelled = read_spelled(plate, bit, book, own, count);
+    let Field::Is(size, next) = spelled else {
+        return TextRead::Refused(spelled.refusal());
+    };
+    TextRead::Is(TextAt::Spelled { bit, size }, next)
+}
+
+// The bit behind n texts, one behind the other.
+pub fn pass_texts(plate: &[u8], at: usize, n: usize, book: &[u8], own: &[u8], count: usize) -> Field
+    requires { ⌜ Lent (now plate) (now book) (now own) count ⌝ }
+    ensures { λ r. ⌜ fieldRead (now (plate .entry)) r ≡ endWith n (many (λ j. reader.text (phrasesIn (now (book .entry)) (now (own .entry)) count)) n (placeAt (now (plate .entry)) at)) ⌝ }
+{
+    let mut bit = at;
+    let mut left = n;
+    while 0 < left {
+        let text = read_text(plate, bit, book, own, count);
+        let TextRead::Is(_, next) = text else {
+            return Field::Refused(text.refusal());
+        };
+        bit = next;
+        left -= 1;
+    }
+    Field::Is(n, bit)
+}

@@ -1,0 +1,18 @@
+// The whole plate, read before anything is made of it: its own phrases, its instruction count, its instructions and the filling, with
+// causes 10, 12, 13, 14, 8 and 15 at the exact bit.
+// specs/Contents.antt says which program a plate's contents are. The own phrases are written once, as lines `phrase,TEXT`, into a buffer
+// that the caller lends; instructions stay where they are, and are read again one by one.
+use causes::Refusal;
+
+// What a plate holds: how many own phrases and instructions, and the bit of the first instruction.
+pub struct Contents {
+    pub own: usize,
+    pub instructions: usize,
+    pub bit: usize,
+}
+
+// What reading a whole plate finds: its contents, or a refusal.
+pub enum PlateRead {
+    Holds(Contents),
+    Refused(Refusal),
+}

@@ -2,3 +2,4 @@ pub mod Writes
 pub mod TextBits
 pub mod Complements
 pub mod LineBits
+pub mod Plates

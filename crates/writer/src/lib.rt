@@ -8,8 +8,10 @@ mod constants;
 mod instructions;
 mod listing;
 mod own;
+mod sizes;
 mod texts;
 
+use causes::Refusal;
 pub use constants::put_constant;
 pub use instructions::put_goto;
 pub use instructions::put_if;
@@ -18,7 +20,9 @@ pub use instructions::put_inputs;
 pub use instructions::put_print;
 pub use instructions::put_printex;
 pub use listing::put_line;
+pub use own::put_front;
 pub use own::put_own;
+pub use sizes::plate_room;
 pub use texts::put_spelled;
 pub use texts::put_text;
 pub use texts::put_texts;
@@ -26,6 +30,12 @@ ghost use mathlib.Core.Path.{_≡_};
 ghost use Prim.Native.Nat.{_-_, _%_};
 ghost use Rattle.bits.specs.Bits.{bitsOf, bytesBits};
 ghost use Rattle.output.specs.Pour.{poured};
+
+// How many bytes of a lent buffer a plate takes, or why it gets none.
+pub enum Room {
+    Bytes(usize),
+    Refused(Refusal),
+}
 
 // The zero bits that fill the last byte.
 pub fn put_fill(out: &mut [u8], at: usize) -> usize

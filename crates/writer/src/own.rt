@@ -1,9 +1,10 @@
-// The own phrases at a plate's front.
+// A plate's front: the own phrases, and how many instructions come behind it.
 ghost use mathlib.Core.Path.{_≡_};
+ghost use mathlib.Core.List.{_++_};
 ghost use Prim.Native.Nat.{_≤_};
 ghost use lib.ListN.{length};
 ghost use Rattle.output.specs.Pour.{poured};
-ghost use Rattle.bits.specs.Bits.{bytesBits};
+ghost use Rattle.bits.specs.Bits.{bitsOf, bytesBits};
 ghost use Rattle.phrases.specs.Lookup.{ownTexts};
 ghost use Rattle.plate.specs.Writing.{phrasesBits, ownBits};
 use crate::texts::count_own;
@@ -41,4 +42,13 @@ pub fn put_own(out: &mut [u8], at: usize, own: &[u8], count: usize) -> usize
     let mut end = bits::put_bits(out, at, 1, 1);
     end = bits::put_bits(out, end, 5, n - 1);
     put_phrases(out, end, own, count)
+}
+
+// A plate's front, from its first bit on: the own phrases, then 10 bits for the number of instructions.
+pub fn put_front(out: &mut [u8], own: &[u8], count: usize, n: usize) -> usize
+    requires { ⌜ length (now out) ≤ 2953 ⌝ }
+    ensures { λ r. ⌜ (r, bytesBits (now (out .exit))) ≡ poured 0 (ownBits (ownTexts count (now (own .entry))) ++ bitsOf 10 n) (bytesBits (now (out .entry))) ⌝ }
+{
+    let end = put_own(out, 0, own, count);
+    bits::put_bits(out, end, 10, n)
 }

@@ -1,5 +1,3 @@
-pub mod Agreement
 pub mod Skips
 pub mod Counted
-pub mod Valid
-pub mod Demand3
+pub mod Cases

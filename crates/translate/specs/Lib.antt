@@ -1,3 +1,2 @@
 pub mod Translation
 pub mod Call
-pub mod Agreement

@@ -23,11 +23,11 @@ use Rattle.walk.proofs.Waits.{walk-waits}
 use Rattle.run.specs.Run.{run}
 use Rattle.run.specs.Call.{ran, runCall}
 use Rattle.run.proofs.Steps.{run-steps}
 use Rattle.translate.specs.Translation.{translateBlock, translateGuide}
 use Rattle.translate.specs.Call.{translation}
-use Rattle.translate.specs.Agreement.{theWalk, theTranscript, Agreement}
-use Rattle.translate.proofs.Agreement.{agree, agree-report}
-use Rattle.translate.proofs.Valid.{guide-valid}
+use Rattle.agreement.specs.Agreement.{theWalk, theTranscript, Agreement}
+use Rattle.agreement.proofs.Agreement.{agree, agree-report}
+use Rattle.agreement.proofs.Valid.{guide-valid}
 
 module _ (book guide plate : List ℕ) (phrases : List Text) (g : Guide) (b : bookPhrases book ≡ made phrases)
     (e : guideOf phrases guide ≡ made g) (f : plateSized (plateBytes phrases (translateGuide g)) ≡ made plate) where

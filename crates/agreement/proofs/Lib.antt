@@ -1,0 +1,3 @@
+pub mod Agreement
+pub mod Valid
+pub mod Demand3

@@ -15,14 +15,14 @@ fn table_is_stored() {
     assert_eq!(table(), stored, "write it anew with `vectors --table`, if the change is meant");
 }
 
-/// The files in ../crates/vectors_.., where there are such crates.
+/// The files in ../crates/vectors_.., where there are such programs.
 #[test]
 fn crates_have_these_files() {
     let Ok(crates) = fs::read_dir(root().join("../crates")) else { return };
     for entry in crates {
         let path = entry.expect("a directory entry").path();
         let name = path.file_name().expect("a name").to_string_lossy().into_owned();
-        if !name.starts_with("vectors_") {
+        if !name.starts_with("vectors_") || !path.join("src/main.rt").exists() {
             continue;
         }
         let set = Set::all().into_iter().find(|set| set.crate_name() == name);
@@ -113,6 +113,8 @@ fn sizes() {
         assert!(files.stdout.len() < 1_500_000);
         for vector in collect(call) {
             assert!(vector.lent <= 327_680);
+            assert!(vector.input.len() <= 327_681);
+            assert!(vector.book.len() <= 20_000);
             assert!(vector.answers.len() <= 512);
             assert!(vector.scratch <= 600);
         }

@@ -3,7 +3,7 @@
 
 mod common;
 
-use common::cursor::Cursor;
+use common::cursor::{check_files, Cursor};
 use model::bits::BitReader;
 use model::number;
 use model::vectors::{bits, pattern, text, Set};
@@ -50,20 +50,6 @@ fn text_case(cursor: &mut Cursor) -> text::Case {
         }
         kind => panic!("no kind {kind}"),
     }
-}
-
-/// At least 2,000 cases, which read back from each stdin give its stdout, and
-/// the sizes that README.md states.
-fn check_files(set: Set, answer: impl Fn(&mut Cursor) -> String) {
-    let files = set.files();
-    let mut cursor = Cursor::new(&files.stdin);
-    let mut stdout = String::new();
-    while !cursor.is_at_end() {
-        stdout += &answer(&mut cursor);
-    }
-    assert!(stdout.lines().count() >= 2_000);
-    assert!(stdout.as_bytes() == files.stdout);
-    assert!(files.stdin.len() < 300_000 && files.stdout.len() < 200_000);
 }
 
 #[test]

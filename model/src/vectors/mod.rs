@@ -5,6 +5,7 @@ pub mod bits;
 mod buffer;
 mod call;
 mod collect;
+pub mod phrases;
 mod set;
 mod stdin;
 pub mod text;

@@ -1,17 +1,18 @@
-//! The vector programs: one for each call, one for bits and one for text.
+//! The vector programs: one for each call, and one each for bits, text and phrases.
 
-use super::{bits, collect, text, Call, Files};
+use super::{bits, collect, phrases, text, Call, Files};
 
 #[derive(Clone, Copy, Debug, PartialEq, Eq)]
 pub enum Set {
     Call(Call),
     Bits,
     Text,
+    Phrases,
 }
 
 impl Set {
     pub fn all() -> Vec<Set> {
-        Call::ALL.into_iter().map(Set::Call).chain([Set::Bits, Set::Text]).collect()
+        Call::ALL.into_iter().map(Set::Call).chain([Set::Bits, Set::Text, Set::Phrases]).collect()
     }
 
     pub fn of_name(name: &str) -> Option<Set> {
@@ -23,6 +24,7 @@ impl Set {
             Set::Call(call) => call.name(),
             Set::Bits => "bits",
             Set::Text => "text",
+            Set::Phrases => "phrases",
         }
     }
 
@@ -42,6 +44,10 @@ impl Set {
                 case.answer()
             }),
             Set::Text => Files::of(&text::collect(), |case, stdin| {
+                case.write(stdin);
+                case.answer()
+            }),
+            Set::Phrases => Files::of(&phrases::collect(), |case, stdin| {
                 case.write(stdin);
                 case.answer()
             }),

@@ -1,5 +1,7 @@
 //! A reader of what a vector program gets, as README.md describes it.
 
+use model::vectors::Set;
+
 pub struct Cursor<'a> {
     rest: &'a [u8],
 }
@@ -37,4 +39,18 @@ impl<'a> Cursor<'a> {
         self.rest = rest;
         bytes.to_vec()
     }
+}
+
+/// At least 2,000 cases of a program for a leaf, which read back from its stdin
+/// give its stdout, and the sizes that README.md states.
+pub fn check_files(set: Set, answer: impl Fn(&mut Cursor) -> String) {
+    let files = set.files();
+    let mut cursor = Cursor::new(&files.stdin);
+    let mut stdout = String::new();
+    while !cursor.is_at_end() {
+        stdout += &answer(&mut cursor);
+    }
+    assert!(stdout.lines().count() >= 2_000);
+    assert!(stdout.as_bytes() == files.stdout);
+    assert!(files.stdin.len() < 300_000 && files.stdout.len() < 200_000);
 }

@@ -1,1 +1,3 @@
 pub mod Next
+pub mod Ranges
+pub mod Options

@@ -9,6 +9,26 @@ use Rattle.plate.specs.Reading.{Place, Read, got, stopped, Reader, return, onwa
 use Rattle.fields.specs.Places.{placeAt, valuesOf}
 use Rattle.reader.specs.Holding.{There}
 
+module _ {A : Type 0} (r : ℕ → Reader A) where
+  -- as many as were asked for
+  pub many-length : (n : ℕ) (p : Place) (xs : List A) (q : Place) → many r n p ≡ got xs q → length xs ≡ n
+  unfolding many return _>>=_
+  many-length zero p xs q e = ap (λ m. length (valuesOf m)) (sym e)
+  many-length (suc n) p xs q e = go (r n p) e
+      (λ s ys u h. many-length n s ys u h)
+    where
+      Shorter : Type 0
+      Shorter = (s : Place) (ys : List A) (u : Place) → many r n s ≡ got ys u → length ys ≡ n
+
+      more : (a : A) (m : Read (List A)) (s : Place) → many r n s ≡ m → onward m (λ as′. return (a ∷ as′)) ≡ got xs q → Shorter
+          → length xs ≡ suc n
+      more a (got ys u) s h k rest = ap (λ m. length (valuesOf m)) (sym k) ∙ ap suc (rest s ys u h)
+      more a (stopped cause at) s h k rest = let z : _≡_ {A = ℕ} 0 1 = cc in absurd (omega arith)
+
+      go : (m : Read A) → onward m (λ a. many r n >>= λ as′. return (a ∷ as′)) ≡ got xs q → Shorter → length xs ≡ suc n
+      go (got a s) k rest = more a (many r n s) s refl k rest
+      go (stopped cause at) k rest = let z : _≡_ {A = ℕ} 0 1 = cc in absurd (omega arith)
+
 module _ {A : Type 0} (r : ℕ → Reader A) (plate : List ℕ) where
   -- what is there is what `many` gives
   pub there-values : {n bit : ℕ} {xs : List A} → There r plate n bit xs → xs ≡ valuesOf (many r n (placeAt plate bit))
@@ -49,24 +69,6 @@ module _ {A : Type 0} (r : ℕ → Reader A) (plate : List ℕ) where
       let k : stopped cause at ≡ got xs (t .end) = ap (λ m. onward m (λ a. many r n >>= λ as′. return (a ∷ as′))) e ∙ t .read in
       let z : _≡_ {A = ℕ} 0 1 = cc in absurd (omega arith)
 
-  many-length : (n : ℕ) (p : Place) (xs : List A) (q : Place) → many r n p ≡ got xs q → length xs ≡ n
-  unfolding many return _>>=_
-  many-length zero p xs q e = ap (λ m. length (valuesOf m)) (sym e)
-  many-length (suc n) p xs q e = go (r n p) e
-      (λ s ys u h. many-length n s ys u h)
-    where
-      Shorter : Type 0
-      Shorter = (s : Place) (ys : List A) (u : Place) → many r n s ≡ got ys u → length ys ≡ n
-
-      more : (a : A) (m : Read (List A)) (s : Place) → many r n s ≡ m → onward m (λ as′. return (a ∷ as′)) ≡ got xs q → Shorter
-          → length xs ≡ suc n
-      more a (got ys u) s h k rest = ap (λ m. length (valuesOf m)) (sym k) ∙ ap suc (rest s ys u h)
-      more a (stopped cause at) s h k rest = let z : _≡_ {A = ℕ} 0 1 = cc in absurd (omega arith)
-
-      go : (m : Read A) → onward m (λ a. many r n >>= λ as′. return (a ∷ as′)) ≡ got xs q → Shorter → length xs ≡ suc n
-      go (got a s) k rest = more a (many r n s) s refl k rest
-      go (stopped cause at) k rest = let z : _≡_ {A = ℕ} 0 1 = cc in absurd (omega arith)
-
   -- how many there are
   pub there-length : {n bit : ℕ} {xs : List A} → There r plate n bit xs → length xs ≡ n
-  there-length {n} {bit} {xs} t = many-length n (placeAt plate bit) xs (t .end) (t .read)
+  there-length {n} {bit} {xs} t = many-length r n (placeAt plate bit) xs (t .end) (t .read)

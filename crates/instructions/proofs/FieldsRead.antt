@@ -11,7 +11,6 @@ use Rattle.phrases.specs.Phrases.{Phrases}
 use Rattle.plate.specs.Reading.{Place, Read, got, stopped, number, judged, return, onward, many}
 use Rattle.plate.specs.Plate.{text, options, fieldsBy}
 use Rattle.fields.specs.Places.{endWith, valuesOf}
-
 use Rattle.fields.proofs.Onward.{then-got, then-stopped}
 
 -- ---- texts of which only the end is known

@@ -55,39 +55,42 @@ unused-code n (suc (suc (suc k))) h g = refl
 
 -- ---- one behind the other
 
--- what is left of n texts ends where all of them end
-pub record Passing {A : Type 0} (r : Reader A) (p : Place) (n left : ℕ) (q : Place) : Type 0 where
-  pub rest : endWith n (many (λ j. r) left q) ≡ endWith n (many (λ j. r) n p)
+-- what is left of n ends where all of them end; each reader is told how many come behind it
+pub record Passing {A : Type 0} (r : ℕ → Reader A) (p : Place) (n left : ℕ) (q : Place) : Type 0 where
+  pub rest : endWith n (many r left q) ≡ endWith n (many r n p)
 
-module _ {A : Type 0} (r : Reader A) where
+module _ {A : Type 0} (r : ℕ → Reader A) where
   pub passing-start : (p : Place) (n : ℕ) → Passing r p n n p
   passing-start p n = record { rest = refl }
 
-  end-more : (n left : ℕ) (q s : Place) (a : A) → got a s ≡ r q → endWith n (many (λ j. r) left s) ≡ endWith n (many (λ j. r) (suc left) q)
+  end-more : (n left : ℕ) (q s : Place) (a : A) → got a s ≡ r left q → endWith n (many r left s) ≡ endWith n (many r (suc left) q)
   unfolding many _>>=_ return
-  end-more n left q s a e = go (many (λ j. r) left s)
-      ∙ ap (λ m. endWith n (onward m (λ a. many (λ j. r) left >>= λ as′. return (a ∷ as′)))) e
+  end-more n left q s a e = go (many r left s)
+      ∙ ap (λ m. endWith n (onward m (λ a. many r left >>= λ as′. return (a ∷ as′)))) e
     where
       go : (m : Read (List A)) → endWith n m ≡ endWith n (onward m (λ as′. return (a ∷ as′)))
       go (got as′ q) = refl
       go (stopped cause bit) = refl
 
   module _ {p : Place} {n : ℕ} (left : ℕ) {q : Place} (w : Passing r p n left q) where
-    pub passing-more : (s : Place) (a : A) → 0 < left → got a s ≡ r q → Passing r p n (left - 1) s
-    passing-more s a h e = go left h w
+    pub passing-more : (s : Place) (a : A) → 0 < left → got a s ≡ r (left - 1) q → Passing r p n (left - 1) s
+    passing-more s a h e = go left h w e
       where
-        go : (k : ℕ) → 0 < k → Passing r p n k q → Passing r p n (k - 1) s
-        go zero h w = absurd (omega arith)
-        go (suc k) h w = rw sub-one (record { rest = end-more n k q s a e ∙ w .rest })
+        go : (k : ℕ) → 0 < k → Passing r p n k q → got a s ≡ r (k - 1) q → Passing r p n (k - 1) s
+        go zero h w e = absurd (omega arith)
+        go (suc k) h w e = let e′ = rw sub-one at e in rw sub-one (record { rest = end-more n k q s a e′ ∙ w .rest })
 
-    pub passing-stopped : {cause : Cause} {bit : ℕ} → 0 < left → stopped cause bit ≡ r q → stopped cause bit ≡ endWith n (many (λ j. r) n p)
+    pub passing-stopped : {cause : Cause} {bit : ℕ} → 0 < left → stopped cause bit ≡ r (left - 1) q
+        → stopped cause bit ≡ endWith n (many r n p)
     unfolding many
-    passing-stopped {cause} {bit} h e = go left h w
+    passing-stopped {cause} {bit} h e = go left h w e
       where
-        go : (k : ℕ) → 0 < k → Passing r p n k q → stopped cause bit ≡ endWith n (many (λ j. r) n p)
-        go zero h w = absurd (omega arith)
-        go (suc k) h w = ap (endWith n) (then-stopped r (λ a. many (λ j. r) k >>= λ as′. return (a ∷ as′)) q e) ∙ w .rest
+        go : (k : ℕ) → 0 < k → Passing r p n k q → stopped cause bit ≡ r (k - 1) q → stopped cause bit ≡ endWith n (many r n p)
+        go zero h w e = absurd (omega arith)
+        go (suc k) h w e =
+            let e′ = rw sub-one at e in
+            ap (endWith n) (then-stopped (r k) (λ a. many r k >>= λ as′. return (a ∷ as′)) q e′) ∙ w .rest
 
-    pub passing-end : left ≡ 0 → got n q ≡ endWith n (many (λ j. r) n p)
+    pub passing-end : left ≡ 0 → got n q ≡ endWith n (many r n p)
     unfolding many return
     passing-end z = (rw z at w) .rest

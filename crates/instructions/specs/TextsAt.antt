@@ -75,3 +75,8 @@ instructionAt plate book own count (IfSkip t k) = ifSkip t k
 abbrev pub instructionRead : List ℕ → List ℕ → List ℕ → ℕ → instructionField.InstructionRead → Read Instruction
 instructionRead plate book own count (instructions.Is i next) = got (instructionAt plate book own count i) (placeAt plate next)
 instructionRead plate book own count (instructions.Refused r) = stopped (r .cause) (r .place)
+
+-- the refusal that an instruction is; nothing asks it of a value
+abbrev pub instructionRefusal : instructionField.InstructionRead → Refusal
+instructionRefusal (instructions.Is i next) = record { cause = PlateEnds; place = next }
+instructionRefusal (instructions.Refused r) = r

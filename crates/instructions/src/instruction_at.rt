@@ -7,18 +7,18 @@ ghost use Rattle.phrases.specs.Lookup.{phrasesIn};
 ghost use Rattle.plate.specs.Plate.{fieldsBy, instruction};
 ghost use Rattle.fields.specs.Places.{placeAt};
 ghost use Rattle.instructions.specs.TextsAt.{instructionRead, Lent};
-use fields::Field;
 use crate::InstructionAt;
 use crate::InstructionRead;
-use fields::TestRead;
 use crate::TextRead;
+use crate::text_at::pass_texts;
+use crate::text_at::read_text;
+use causes::Cause;
+use fields::Field;
+use fields::TestRead;
 use fields::read_field;
 use fields::read_plain;
 use fields::read_skip;
 use fields::read_test;
-use crate::text_at::pass_texts;
-use crate::text_at::read_text;
-use causes::Cause;
 
 // input: register, text.
 fn read_input(plate: &[u8], at: usize, book: &[u8], own: &[u8], count: usize) -> InstructionRead

@@ -10,12 +10,12 @@ ghost use Rattle.plate.specs.Reading.{number, judged};
 ghost use Rattle.plate.specs.Plate.{phrase};
 ghost use Rattle.fields.specs.Places.{placeAt, fieldRead};
 ghost use Rattle.instructions.specs.TextsAt.{phraseOf, textsRead, Lent};
-use fields::Field;
 use crate::TextAt;
 use crate::TextRead;
+use causes::Cause;
+use fields::Field;
 use fields::read_field;
 use fields::read_plain;
-use causes::Cause;
 
 // The place of a phrase among n, in the fewest bits that number them.
 fn read_place(plate: &[u8], at: usize, n: usize) -> Field

@@ -1,6 +1,7 @@
 // The refusal that an answer is, for the `else` of a let. Nothing asks an answer that is no refusal.
 ghost use mathlib.Core.Path.{_≡_};
-ghost use Rattle.instructions.specs.TextsAt.{textRefusal};
+ghost use Rattle.instructions.specs.TextsAt.{textRefusal, instructionRefusal};
+use crate::InstructionRead;
 use crate::TextRead;
 use causes::Cause;
 use causes::Refusal;
@@ -12,6 +13,20 @@ impl TextRead {
         match self {
             TextRead::Refused(r) => r,
             TextRead::Is(_, next) => Refusal {
+                cause: Cause::PlateEnds,
+                place: next,
+            },
+        }
+    }
+}
+
+impl InstructionRead {
+    pub fn refusal(self) -> Refusal
+        ensures { λ r. ⌜ r ≡ instructionRefusal self ⌝ }
+    {
+        match self {
+            InstructionRead::Refused(r) => r,
+            InstructionRead::Is(_, next) => Refusal {
                 cause: Cause::PlateEnds,
                 place: next,
             },

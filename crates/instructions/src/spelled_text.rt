@@ -9,11 +9,11 @@ ghost use Rattle.phrases.specs.Phrases.{isNew};
 ghost use Rattle.phrases.specs.Lookup.{bookTexts, ownTexts};
 ghost use Rattle.plate.specs.Plate.{spelled};
 ghost use Rattle.fields.specs.Places.{placeAt, sizeRead, charactersIn};
+use causes::Cause;
+use causes::Refusal;
 use fields::Field;
 use fields::put_characters;
 use fields::read_size;
-use causes::Cause;
-use causes::Refusal;
 use phrases::Found;
 
 // Whether a text is no phrase.

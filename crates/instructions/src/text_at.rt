@@ -8,14 +8,14 @@ ghost use Rattle.plate.specs.Reading.{number, judged, many};
 ghost use Rattle.plate.specs.Plate as reader;
 ghost use Rattle.fields.specs.Places.{placeAt, fieldRead, endWith};
 ghost use Rattle.instructions.specs.TextsAt.{textsRead, codeWith, Lent};
-use fields::Field;
 use crate::TextAt;
 use crate::TextRead;
-use fields::read_plain;
 use crate::phrase_place::read_phrase;
 use crate::spelled_text::read_spelled;
 use causes::Cause;
 use causes::Refusal;
+use fields::Field;
+use fields::read_plain;
 
 // Whether a code of a text is used, with so many phrases.
 fn is_code(code: usize, n: usize) -> bool

@@ -10,8 +10,8 @@ use Rattle.instructions.proofs.text_at.pass_texts.Statement.{statement}
 use Rattle.instructions.proofs.text_at.pass_texts.Tie as tie
 
 abbrev Inv-loop : tie.InvT-loop
-Inv-loop plate at n book own count bit₀ left₀ bit left = Passing (reader.text (phrasesIn book own count)) (placeAt plate at) n left
-    (placeAt plate bit)
+Inv-loop plate at n book own count bit₀ left₀ bit left =
+    Passing (λ j. reader.text (phrasesIn book own count)) (placeAt plate at) n left (placeAt plate bit)
 
 abbrev μ-loop : tie.MeasureT-loop
 μ-loop plate at n book own count bit₀ left₀ bit left = left

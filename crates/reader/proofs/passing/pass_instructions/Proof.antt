@@ -1,0 +1,71 @@
+-- `pass_instructions` meets its contract. The loop's invariant: what is left ends where all of it ends. The measure is what is left.
+use native.Mathlib.Omega.{arith}
+use borrow.Author.Needs.{needs}
+use Rattle.phrases.specs.Lookup.{phrasesIn}
+use Rattle.plate.specs.Plate.{instruction}
+use Rattle.fields.specs.Places.{placeAt}
+use Rattle.instructions.proofs.TextAnswers.{instruction-got, instruction-stopped}
+use Rattle.instructions.proofs.TextsRead.{Passing, passing-start, passing-more, passing-stopped, passing-end}
+use Rattle.reader.proofs.passing.pass_instructions.Statement.{statement}
+use Rattle.reader.proofs.passing.pass_instructions.Tie as tie
+
+abbrev Inv-loop : tie.InvT-loop
+Inv-loop plate at n book own count bit₀ left₀ bit left =
+    Passing (instruction (phrasesIn book own count)) (placeAt plate at) n left (placeAt plate bit)
+
+abbrev μ-loop : tie.MeasureT-loop
+μ-loop plate at n book own count bit₀ left₀ bit left = left
+
+loop-holds : tie.Need-loop-holds Inv-loop μ-loop
+loop-holds c = passing-start _ _ _
+
+sub-read-instruction : tie.Need-sub-read-instruction Inv-loop μ-loop
+sub-read-instruction c = search needs
+
+read-instruction-requires : tie.Need-read-instruction-requires Inv-loop μ-loop
+read-instruction-requires c κs = search needs
+
+enum-known-read : tie.Need-enum-known-read Inv-loop μ-loop
+enum-known-read c = search needs
+
+enum-told : tie.Need-enum-told Inv-loop μ-loop
+enum-told c = search needs
+
+refusal-requires : tie.Need-refusal-requires Inv-loop μ-loop
+refusal-requires c κs = search needs
+
+returns : tie.Need-returns Inv-loop μ-loop
+returns c = passing-stopped _ _ (c .before .before .before .before .before .loop .inv) (search needs)
+    (instruction-stopped _ _ _ _ _ (c .before .before .before .read-instruction .ensures) (c .before .enum-told .given .1)
+    (c .refusal .ensures))
+
+sub-left : tie.Need-sub-left Inv-loop μ-loop
+sub-left c = search needs
+
+loop-less : tie.Need-loop-less Inv-loop μ-loop
+loop-less c = search needs
+
+loop-again : tie.Need-loop-again Inv-loop μ-loop
+loop-again c = passing-more _ _ (c .before .before .before .before .before .loop .inv) _ _ (search needs)
+    (instruction-got _ _ _ _ _ (c .before .before .before .read-instruction .ensures) (c .before .read .given .1))
+
+returns-2 : tie.Need-returns-2 Inv-loop μ-loop
+returns-2 c = passing-end _ (c .before .loop .left) (c .before .loop .inv) (omega arith)
+
+pub pass-instructions-spec : {M : Type 1} → statement M
+pass-instructions-spec =
+    tie.close
+    (tie.spec
+    Inv-loop
+    μ-loop
+    loop-holds
+    sub-read-instruction
+    read-instruction-requires
+    enum-known-read
+    enum-told
+    refusal-requires
+    returns
+    sub-left
+    loop-less
+    loop-again
+    returns-2)

@@ -1,0 +1,28 @@
+// Instructions passed over, one behind the other.
+ghost use mathlib.Core.Path.{_≡_};
+ghost use Rattle.phrases.specs.Lookup.{phrasesIn};
+ghost use Rattle.plate.specs.Reading.{many};
+ghost use Rattle.plate.specs.Plate.{instruction};
+ghost use Rattle.fields.specs.Places.{placeAt, fieldRead, endWith};
+ghost use Rattle.instructions.specs.TextsAt.{Lent};
+use fields::Field;
+use instructions::InstructionRead;
+use instructions::read_instruction;
+
+// The bit behind n instructions.
+pub fn pass_instructions(plate: &[u8], at: usize, n: usize, book: &[u8], own: &[u8], count: usize) -> Field
+    requires { ⌜ Lent (now plate) (now book) (now own) count ⌝ }
+    ensures { λ r. ⌜ fieldRead (now (plate .entry)) r ≡ endWith n (many (instruction (phrasesIn (now (book .entry)) (now (own .entry)) count)) n (placeAt (now (plate .entry)) at)) ⌝ }
+{
+    let mut bit = at;
+    let mut left = n;
+    while 0 < left {
+        let read = read_instruction(plate, bit, left - 1, book, own, count);
+        let InstructionRead::Is(_, next) = read else {
+            return Field::Refused(read.refusal());
+        };
+        bit = next;
+        left -= 1;
+    }
+    Field::Is(n, bit)
+}

@@ -1,3 +1,4 @@
 pub mod Pour
 pub mod Parts
 pub mod Poured
+pub mod Tails

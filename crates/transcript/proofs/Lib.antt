@@ -3,7 +3,6 @@ pub mod Cases
 pub mod Endings
 pub mod Steps
 pub mod Waiting
-pub mod Tails
 pub mod Natural
 pub mod Lay
 pub mod Follow

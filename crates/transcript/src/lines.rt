@@ -1,18 +1,10 @@
 // The lines of the transcript, each written at the front of its unwritten tail.
 ghost use mathlib.Core.Path.{_≡_};
 ghost use mathlib.Core.List.{[], _∷_, _++_};
-ghost use Prim.Native.Nat.{min};
 ghost use Rattle.text.specs.Parts.{comma, LF};
 ghost use Rattle.output.specs.Pour.{poured};
 ghost use Rattle.transcript.specs.State.{asked, answered, shown, ruled, lineBytes};
 ghost use Rattle.transcript.specs.Offered.{offerBytes};
-
-// The smaller of two numbers.
-fn least(a: usize, b: usize) -> usize
-    ensures { λ r. ⌜ r ≡ min a b ⌝ }
-{
-    if a < b { a } else { b }
-}
 
 // Three texts, one behind the other, at the front of the tail.
 fn put_texts(tail: &mut [u8], first: &[u8], second: &[u8], third: &[u8]) -> usize
@@ -36,7 +28,7 @@ fn put_answer(tail: &mut [u8], v: i32) -> usize
 fn texts_at(out: &mut [u8], at: usize, first: &[u8], second: &[u8], third: &[u8]) -> usize
     ensures { λ r. ⌜ (r, now (out .exit)) ≡ poured at ((now (first .entry) ++ now (second .entry)) ++ now (third .entry)) (now (out .entry)) ⌝ }
 {
-    let from = least(at, out.len());
+    let from = output::least(at, out.len());
     let n = put_texts(&mut out[from..], first, second, third);
     output::sum(at, n)
 }
@@ -66,7 +58,7 @@ pub fn put_ruled(out: &mut [u8], at: usize, text: &[u8]) -> usize
 pub fn put_answered(out: &mut [u8], at: usize, v: i32) -> usize
     ensures { λ r. ⌜ (r, now (out .exit)) ≡ poured at (lineBytes (answered v)) (now (out .entry)) ⌝ }
 {
-    let from = least(at, out.len());
+    let from = output::least(at, out.len());
     let n = put_answer(&mut out[from..], v);
     output::sum(at, n)
 }

@@ -1,7 +1,7 @@
 -- `put_answered` meets its contract: what is written into the lent tail is written into the buffer.
 use mir.Facts.{toZ-ofZ}
 use borrow.Author.Needs.{needs}
-use Rattle.transcript.proofs.Tails.{in-tail}
+use Rattle.output.proofs.Tails.{in-tail}
 use Rattle.transcript.proofs.lines.put_answered.Statement.{statement}
 use Rattle.transcript.proofs.lines.put_answered.Tie as tie
 

@@ -1,6 +1,6 @@
 -- `texts_at` meets its contract: what is written into the lent tail is written into the buffer.
 use borrow.Author.Needs.{needs}
-use Rattle.transcript.proofs.Tails.{in-tail}
+use Rattle.output.proofs.Tails.{in-tail}
 use Rattle.transcript.proofs.lines.texts_at.Statement.{statement}
 use Rattle.transcript.proofs.lines.texts_at.Tie as tie
 

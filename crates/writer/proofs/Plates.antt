@@ -79,6 +79,14 @@ room-fits bits lent {n} e = go (leb (bits / 8) 2953) refl (leb (bits / 8) lent) 
     go true v false w e = absurd (never e)
     go false v w f e = absurd (never e)
 
+-- that part of the buffer
+pub room-part : (bits : ℕ) (buffer : List ℕ) {n : ℕ} → roomAnswer (plateRoom bits (length buffer)) ≡ Bytes n
+    → (length (take n buffer) ≡ n) × (length (take n buffer) ≤ 2953)
+room-part bits buffer {n} e =
+    let k = room-fits bits (length buffer) e in
+    let size : length (take n buffer) ≡ n = length-take-le n buffer (k .2) in
+    (size, omega (arith, k .1))
+
 -- ---- the plate in the lent buffer
 
 -- bytes
@@ -128,7 +136,7 @@ module _ (bs old : List Bool) {r : ℕ} {x : List Bool} (dry : (r, x) ≡ poured
       → (wrote n, new ++ drop n buffer) ≡ written (plateSized (pack bs)) buffer
   laid {n} {y} new e f ho hn =
       let k = room-fits r (length buffer) e in
-      let size : length (take n buffer) ≡ n = length-take-le n buffer (k .2) in
+      let size = room-part r buffer e .0 in
       let whole : length (pack bs) ≡ n = omega (arith, counted, k .0, k .1) in
       let part = front-octets (take n buffer) (drop n buffer) (rw (take-append-drop n buffer) ho) in
       let bits = stored 0 (filled bs) (bytesBits (take n buffer)) y (bytesBits new) f in

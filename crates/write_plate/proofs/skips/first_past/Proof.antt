@@ -1,0 +1,88 @@
+-- `first_past` meets its contract: before a no skip goes past, and `left` instructions stand from there on.
+use borrow.Author.Needs.{needs}
+use Prim.Native.Nat.{_-_}
+use native.Mathlib.Omega.{arith}
+use mathlib.Core.Path.{sym, ap}
+use lib.ListN.{length}
+use Rattle.write_plate.specs.Skips.{pastAnswer}
+use Rattle.write_plate.proofs.AcceptedListing.{few-own, few-instructions}
+use Rattle.write_plate.proofs.Searched.{Searched, searched-none, searched-end, counts-one, goes-past, goes-on}
+use Rattle.write_plate.proofs.skips.first_past.Statement.{statement}
+use Rattle.write_plate.proofs.skips.first_past.Tie as tie
+
+abbrev Inv-loop : tie.InvT-loop
+Inv-loop listing own instructions left₀ a₀ left a = Searched listing own instructions left a
+
+abbrev μ-loop : tie.MeasureT-loop
+μ-loop listing own instructions left₀ a₀ left a = length listing - a
+
+loop-holds : tie.Need-loop-holds Inv-loop μ-loop
+loop-holds c = searched-none _ _ _ (c .before .pre)
+
+find-requires : tie.Need-find-requires Inv-loop μ-loop
+find-requires c κs = search needs
+
+sub-read-line : tie.Need-sub-read-line Inv-loop μ-loop
+sub-read-line c = search needs
+
+part-read-line-start : tie.Need-part-read-line-start Inv-loop μ-loop
+part-read-line-start c = search needs
+
+part-read-line-end : tie.Need-part-read-line-end Inv-loop μ-loop
+part-read-line-end c = search needs
+
+read-line-requires : tie.Need-read-line-requires Inv-loop μ-loop
+read-line-requires c κs = search needs
+
+count-of-requires : tie.Need-count-of-requires Inv-loop μ-loop
+count-of-requires c κs = search needs
+
+sub-left : tie.Need-sub-left Inv-loop μ-loop
+sub-left c = counts-one (c .before .before .before .before .before .loop .inv) (c .before .before .before .before .loop-test .taken) (c .before .before .before .find .ensures .0) (c .before .before .before .find .ensures .1) (c .before .read-line .ensures) (c .count-of .ensures)
+
+skip-of-requires : tie.Need-skip-of-requires Inv-loop μ-loop
+skip-of-requires c κs = search needs
+
+add-t14 : tie.Need-add-t14 Inv-loop μ-loop
+add-t14 c = omega (arith, few-own (c .before .before .before .before .before .before .before .before .before .pre), few-instructions (c .before .before .before .before .before .before .before .before .before .pre))
+
+sub-t15 : tie.Need-sub-t15 Inv-loop μ-loop
+sub-t15 c = omega (arith, c .before .before .before .before .before .before .before .loop .inv .few)
+
+returns : tie.Need-returns Inv-loop μ-loop
+returns c = sym (ap pastAnswer (goes-past (c .before .before .before .before .before .before .before .loop .inv) (c .before .before .before .before .before .before .loop-test .taken) (c .before .before .before .before .before .find .ensures .0) (c .before .before .before .before .before .find .ensures .1) (c .before .before .before .read-line .ensures) (c .before .before .count-of .ensures) (c .before .skip-of .ensures) (c .if1 .taken)))
+
+add-a : tie.Need-add-a Inv-loop μ-loop
+add-a c = search needs
+
+loop-less : tie.Need-loop-less Inv-loop μ-loop
+loop-less c = search needs
+
+loop-again : tie.Need-loop-again Inv-loop μ-loop
+loop-again c = goes-on (c .before .before .before .before .before .before .before .loop .inv) (c .before .before .before .before .before .before .loop-test .taken) (c .before .before .before .before .before .find .ensures .0) (c .before .before .before .before .before .find .ensures .1) (c .before .before .before .read-line .ensures) (c .before .before .count-of .ensures) (c .before .skip-of .ensures) (c .if1 .left)
+
+returns-2 : tie.Need-returns-2 Inv-loop μ-loop
+returns-2 c = sym (ap pastAnswer (searched-end (c .before .loop .inv) (c .loop-test .left)))
+
+pub first-past-spec : {M : Type 1} → statement M
+first-past-spec =
+    tie.close
+    (tie.spec
+    Inv-loop
+    μ-loop
+    loop-holds
+    find-requires
+    sub-read-line
+    part-read-line-start
+    part-read-line-end
+    read-line-requires
+    count-of-requires
+    sub-left
+    skip-of-requires
+    add-t14
+    sub-t15
+    returns
+    add-a
+    loop-less
+    loop-again
+    returns-2)

@@ -1,0 +1,74 @@
+-- `write_plate` meets its contract: the book's refusal, the listing's, a skip's, or what the two passes leave.
+use mathlib.Core.Path.{sym, _∙_}
+use Rattle.write_plate.proofs.Call.{call-book, book-few, call-listing, call-skip, call-written}
+use borrow.Author.Needs.{needs}
+use Rattle.write_plate.proofs.write_plate.Statement.{statement}
+use Rattle.write_plate.proofs.write_plate.Tie as tie
+
+check-book-requires : tie.Need-check-book-requires
+check-book-requires c κs = search needs
+
+enum-known-line : tie.Need-enum-known-line
+enum-known-line c = search needs
+
+enum-told : tie.Need-enum-told
+enum-told c = search needs
+
+check-requires : tie.Need-check-requires
+check-requires c κs = search needs
+
+enum-known-r : tie.Need-enum-known-r
+enum-known-r c = search needs
+
+enum-known-own : tie.Need-enum-known-own
+enum-known-own c = search needs
+
+first-past-requires : tie.Need-first-past-requires
+first-past-requires c κs = record { book = _; checked = sym (c .before .before .before .check .ensures) ∙ c .before .own .given .1 }
+
+enum-known-line-2 : tie.Need-enum-known-line-2
+enum-known-line-2 c = search needs
+
+enum-told-2 : tie.Need-enum-told-2
+enum-told-2 c = search needs
+
+write-requires : tie.Need-write-requires
+write-requires c κs = (
+  book-few _ (sym (c .before .before .before .before .before .before .before .before .before .before .check-book .ensures) ∙ c .before .before .before .before .before .before .before .before .enum-told .given .1),
+  record { book = _; checked = sym (c .before .before .before .before .before .before .before .check .ensures) ∙ c .before .before .before .before .before .own .given .1 },
+)
+
+returns : tie.Need-returns
+returns c = call-book _ _ _ _ (sym (c .before .before .before .check-book .ensures) ∙ c .before .line .given .1)
+
+returns-2 : tie.Need-returns-2
+returns-2 c = call-listing _ _ _ (sym (c .before .before .before .before .before .before .check-book .ensures) ∙ c .before .before .before .before .enum-told .given .1) _ (sym (c .before .before .before .check .ensures) ∙ c .before .r .given .1)
+
+returns-3 : tie.Need-returns-3
+returns-3 c = call-skip _ _ _ (sym (c .before .before .before .before .before .before .before .before .before .before .check-book .ensures) ∙ c .before .before .before .before .before .before .before .before .enum-told .given .1) (sym (c .before .before .before .before .before .before .before .check .ensures) ∙ c .before .before .before .before .before .own .given .1) _ (sym (c .before .before .before .first-past .ensures) ∙ c .before .line2 .given .1)
+
+same-length : tie.Need-same-length
+same-length c = search needs
+
+returns-4 : tie.Need-returns-4
+returns-4 c = call-written _ _ _ (sym (c .before .before .before .before .before .before .before .before .before .before .before .before .before .check-book .ensures) ∙ c .before .before .before .before .before .before .before .before .before .before .before .enum-told .given .1) (sym (c .before .before .before .before .before .before .before .before .before .before .check .ensures) ∙ c .before .before .before .before .before .before .before .before .own .given .1) _ (sym (c .before .before .before .before .before .before .first-past .ensures) ∙ c .before .before .before .before .enum-told2 .given .1) (c .before .before .write .ensures)
+
+pub write-plate-spec : {M : Type 1} → statement M
+write-plate-spec =
+    tie.close
+    (tie.spec
+    check-book-requires
+    enum-known-line
+    enum-told
+    check-requires
+    enum-known-r
+    enum-known-own
+    first-past-requires
+    enum-known-line-2
+    enum-told-2
+    write-requires
+    returns
+    returns-2
+    returns-3
+    same-length
+    returns-4)

@@ -1,0 +1,47 @@
+// The call `write_plate`: the plate of a listing, with a book.
+// The book is checked, then the listing, line by line, then each skip, and a refusal leaves the buffer as it was. Crate listing's
+// specs/Calls.antt says what the call answers and leaves in the lent buffer. The plate's bits are made twice: first on no buffer, to learn
+// how many there are, and then on the part of the lent one that they take, so that the bytes behind them stay.
+
+mod passes;
+mod skips;
+
+use causes::Cause;
+use causes::Refusal;
+use causes::Written;
+use lines::Checked;
+use lines::Form;
+use phrases::Book;
+ghost use mathlib.Core.Path.{_≡_};
+ghost use Rattle.causes.specs.Answers.{writtenAnswer};
+ghost use Rattle.listing.specs.Calls.{writePlateCall};
+
+// The first line whose skip goes past the instructions behind it, if there is one.
+pub enum Past {
+    Line(usize),
+    Nowhere,
+}
+
+// A listing's plate is written into the lent buffer.
+pub fn write_plate(listing: &[u8], book: &[u8], plate: &mut [u8]) -> Written
+    ensures { λ r. ⌜ (writtenAnswer r, now (plate .exit)) ≡ writePlateCall (now (listing .entry)) (now (book .entry)) (now (plate .entry)) ⌝ }
+{
+    match phrases::check_book(book) {
+        Book::Bad(line) => Written::Refused(Refusal {
+            cause: Cause::Book,
+            place: line,
+        }),
+        Book::Holds(_) => match lines::check(Form::Listing, book, listing) {
+            Checked::Refused(r) => Written::Refused(r),
+            Checked::Fine { own, instructions } => {
+                match skips::first_past(listing, own, instructions) {
+                    Past::Line(line) => Written::Refused(Refusal {
+                        cause: Cause::Skip,
+                        place: line,
+                    }),
+                    Past::Nowhere => passes::write(listing, book, own, instructions, plate),
+                }
+            }
+        },
+    }
+}

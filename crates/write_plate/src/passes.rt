@@ -1,0 +1,72 @@
+// The plate in two passes.
+ghost use mathlib.Core.Path.{_≡_};
+ghost use Prim.Native.Nat.{_≤_};
+ghost use lib.ListN.{length};
+ghost use Rattle.causes.specs.Answers.{writtenAnswer};
+ghost use Rattle.output.specs.Pour.{poured};
+ghost use Rattle.bits.specs.Bits.{bytesBits, filled};
+ghost use Rattle.phrases.specs.Lookup.{bookTexts, phrasesIn};
+ghost use Rattle.lines.specs.declared.Form.the-variants as form;
+ghost use Rattle.lines.specs.Check.{linesOf};
+ghost use Rattle.plate.specs.Writing.{instructionsBits, programBits};
+ghost use Rattle.listing.specs.Listing.{instructionsOf};
+ghost use Rattle.write_plate.specs.Accepted.{AcceptedAs, programIn, lentPlate};
+use causes::Written;
+use lines::Form;
+use writer::Room;
+
+// The instructions of an accepted listing, from the bit `at` on.
+fn put_lines(
+    out: &mut [u8],
+    at: usize,
+    book: &[u8],
+    listing: &[u8],
+    own: usize,
+    instructions: usize,
+) -> usize
+    requires { ⌜ (length (now out) ≤ 2953) × (length (bookTexts (now book)) ≤ 65536) × AcceptedAs (now listing) own instructions ⌝ }
+    ensures { λ r. ⌜ (r, bytesBits (now (out .exit))) ≡ poured at (instructionsBits (phrasesIn (now (book .entry)) (now (listing .entry)) own) (instructionsOf (linesOf form.Listing (now (listing .entry))))) (bytesBits (now (out .entry))) ⌝ }
+{
+    let mut end = at;
+    let mut a = 0;
+    while a < listing.len() {
+        let e = text::find(listing, a, b'\n');
+        let line = &listing[a..e];
+        let head = lines::read_line(Form::Listing, line);
+        end = writer::put_line(out, end, head, line, book, listing, own);
+        a = e + 1;
+    }
+    end
+}
+
+// The whole plate of an accepted listing, as far as the buffer goes, and how many bits it has.
+fn produce(out: &mut [u8], book: &[u8], listing: &[u8], own: usize, instructions: usize) -> usize
+    requires { ⌜ (length (now out) ≤ 2953) × (length (bookTexts (now book)) ≤ 65536) × AcceptedAs (now listing) own instructions ⌝ }
+    ensures { λ r. ⌜ (r, bytesBits (now (out .exit))) ≡ poured 0 (filled (programBits (bookTexts (now (book .entry))) (programIn (now (listing .entry)) own))) (bytesBits (now (out .entry))) ⌝ }
+{
+    let mut end = writer::put_front(out, listing, own, instructions);
+    end = put_lines(out, end, book, listing, own, instructions);
+    writer::put_fill(out, end)
+}
+
+// The plate of an accepted listing whose skips stay within it: first on no buffer, to learn its length; then 10, 11, or the plate is
+// written.
+pub fn write(
+    listing: &[u8],
+    book: &[u8],
+    own: usize,
+    instructions: usize,
+    plate: &mut [u8],
+) -> Written
+    requires { ⌜ (length (bookTexts (now book)) ≤ 65536) × AcceptedAs (now listing) own instructions ⌝ }
+    ensures { λ r. ⌜ (writtenAnswer r, now (plate .exit)) ≡ lentPlate (bookTexts (now (book .entry))) (programIn (now (listing .entry)) own) (now (plate .entry)) ⌝ }
+{
+    let bits = produce(&mut [], book, listing, own, instructions);
+    match writer::plate_room(bits, plate.len()) {
+        Room::Refused(r) => Written::Refused(r),
+        Room::Bytes(length) => {
+            produce(&mut plate[..length], book, listing, own, instructions);
+            Written::Done(length)
+        }
+    }
+}

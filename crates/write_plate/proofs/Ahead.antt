@@ -1,7 +1,7 @@
 -- The lines of a listing from a place of its text on.
 use Prim.Native.Nat.{ℕ, suc, _+_, _-_, _≤_, _<_}
 use native.Mathlib.Omega.{arith}
-use mathlib.Core.Path.{_≡_, refl, sym, ap, subst, _∙_}
+use mathlib.Core.Path.{_≡_, refl, subst}
 use mathlib.Core.List.{List, [], _∷_}
 use lib.ListN.{length, take, drop, drop-of-length-le}
 use lib.Seq.{drop-cons}
@@ -49,7 +49,7 @@ module _ (s : List ℕ) (a e : ℕ) (g : Ahead s a) (h : a < length s) (k : e �
       let only : linesFrom s a ≡ faulty Byte ∷ [] = rw (part-last LF s a e k z, n, drop-cons s a 0 h) in
       subst NoFaults only (g .sound) .0 Byte refl
 
-  pub ends : e < length s
+  ends : e < length s
   ends = let z = unended in omega arith
 
   pub first-line : linesFrom s a ≡ lineOf Listing (take (e - a) (drop a s)) ∷ linesFrom s (e + 1)

@@ -1,28 +1,27 @@
 -- The call: a refusal of the book, of the listing's lines or of a skip, or what the two passes leave.
 use Prim.Native.Nat.{ℕ, suc, _≤_}
 use native.Mathlib.Omega.{arith}
-use mathlib.Core.Path.{_≡_, refl, sym, ap, _∙_}
+use mathlib.Core.Path.{_≡_, refl, ap, _∙_}
 use mathlib.Core.List.{List}
 use mathlib.Core.Option.{Option, none, some}
 use lib.ListN.{length}
-use Rattle.causes.specs.Answers.{made, Answer, refusing}
+use Rattle.causes.specs.Answers.{Answer, refusing}
 use Rattle.causes.specs.declared.Cause.the-variants.{Book, Skip}
 use Rattle.causes.specs.declared.Refusal.{Refusal}
 use Rattle.phrases.specs.declared.Book.the-variants.{Holds, Bad}
 use Rattle.phrases.specs.Book.{bookPhrases}
-use Rattle.phrases.specs.Lookup.{bookTexts, ownTexts, bookAnswer}
+use Rattle.phrases.specs.Lookup.{bookTexts, bookAnswer}
 use Rattle.phrases.proofs.Answers.{book-is}
 use Rattle.phrases.proofs.BookValid.{book-ok}
 use Rattle.lines.specs.declared.Form.the-variants.{Listing}
 use Rattle.lines.specs.declared.Checked.the-variants.{Fine, Refused}
-use Rattle.lines.specs.Check.{linesOf, accept}
+use Rattle.lines.specs.Check.{linesOf}
 use Rattle.lines.specs.Answers.{seenIn, checkedAnswer}
-use Rattle.lines.proofs.Answers.{acceptedBy, accept-is}
-use Rattle.listing.specs.Listing.{instructionsOf, firstPast, skipsWithin, within, listingProgram}
+use Rattle.lines.proofs.Answers.{accept-is}
+use Rattle.listing.specs.Listing.{instructionsOf, firstPast, within, listingProgram}
 use Rattle.listing.specs.Calls.{writtenPlate, writePlateCall}
-use Rattle.plate.specs.Program.{Instruction}
-use Rattle.write_plate.specs.declared.Past.{Past}
-use Rattle.write_plate.specs.declared.Past.the-variants as past
+use Rattle.write_plate.specs.declared.skips.Past.{Past}
+use Rattle.write_plate.specs.declared.skips.Past.the-variants as past
 use Rattle.write_plate.specs.Accepted.{AcceptedAs, programIn, lentPlate}
 use Rattle.write_plate.specs.Skips.{pastAnswer}
 use Rattle.write_plate.proofs.AcceptedListing.{phrases-count}

@@ -1,19 +1,19 @@
 -- The search for the first skip that goes past the instructions behind it, one line on.
 use Prim.Native.Nat.{ℕ, suc, _+_, _-_, _≤_, _<_}
 use native.Mathlib.Omega.{arith}
-use mathlib.Core.Path.{_≡_, refl, sym, ap, _∙_}
-use mathlib.Core.List.{List, [], _∷_, _++_}
+use mathlib.Core.Path.{_≡_, refl, ap, _∙_}
+use mathlib.Core.List.{List, _∷_, _++_}
 use mathlib.Core.Option.{none, some}
 use lib.ListN.{length, take, drop, length-append}
 use borrow.Author.Tests.{le-leb, lt-leb}
 use Rattle.text.specs.Parts.{untilByte, LF}
-use Rattle.transcript.specs.Statement.{Statement, input, inputs, print, printex}
+use Rattle.transcript.specs.Statement.{input, inputs, print, printex}
 use Rattle.lines.specs.declared.Form.the-variants.{Listing}
 use Rattle.lines.specs.declared.Head.{Head}
 use Rattle.lines.specs.Line.{Line, phrase, says, ifLine, elseLine, fiLine, gotoLine, ifSkipLine, faulty, lineOf}
 use Rattle.lines.specs.Check.{linesOf}
 use Rattle.lines.specs.Answers.{headOf}
-use Rattle.plate.specs.Program.{Instruction, statement, skipOf}
+use Rattle.plate.specs.Program.{Instruction, skipOf}
 use Rattle.listing.specs.Listing.{instructionOf, instructionsOf, firstPast}
 use Rattle.write_plate.specs.Accepted.{AcceptedAs}
 use Rattle.write_plate.specs.Skips.{skipBy, countBy}

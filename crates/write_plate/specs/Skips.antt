@@ -3,8 +3,8 @@ use Prim.Native.Nat.{ℕ}
 use mathlib.Core.Option.{Option, none, some}
 use Rattle.lines.specs.declared.Head.{Head}
 use Rattle.lines.specs.declared.Head.the-variants as head
-use Rattle.write_plate.specs.declared.Past.{Past}
-use Rattle.write_plate.specs.declared.Past.the-variants as past
+use Rattle.write_plate.specs.declared.skips.Past.{Past}
+use Rattle.write_plate.specs.declared.skips.Past.the-variants as past
 
 -- the skip of a goto or an if; 0 of any other line
 abbrev pub skipBy : Head → ℕ

@@ -12,15 +12,10 @@ use causes::Written;
 use lines::Checked;
 use lines::Form;
 use phrases::Book;
+use skips::Past;
 ghost use mathlib.Core.Path.{_≡_};
 ghost use Rattle.causes.specs.Answers.{writtenAnswer};
 ghost use Rattle.listing.specs.Calls.{writePlateCall};
-
-// The first line whose skip goes past the instructions behind it, if there is one.
-pub enum Past {
-    Line(usize),
-    Nowhere,
-}
 
 // A listing's plate is written into the lent buffer.
 pub fn write_plate(listing: &[u8], book: &[u8], plate: &mut [u8]) -> Written

@@ -5,29 +5,19 @@ ghost use lib.ListN.{length};
 ghost use Rattle.causes.specs.Answers.{writtenAnswer};
 ghost use Rattle.output.specs.Pour.{poured};
 ghost use Rattle.bits.specs.Bits.{bytesBits, filled};
-ghost use Rattle.phrases.specs.Lookup.{bookTexts, phrasesIn};
-ghost use Rattle.lines.specs.declared.Form.the-variants as form;
-ghost use Rattle.lines.specs.Check.{linesOf};
-ghost use Rattle.plate.specs.Writing.{instructionsBits, programBits};
-ghost use Rattle.listing.specs.Listing.{instructionsOf};
+ghost use Rattle.phrases.specs.Lookup.{bookTexts};
+ghost use Rattle.plate.specs.Writing.{programBits};
 ghost use Rattle.write_plate.specs.Accepted.{AcceptedAs, programIn, lentPlate};
 use causes::Written;
 use lines::Form;
 use writer::Room;
 
-// The instructions of an accepted listing, from the bit `at` on.
-fn put_lines(
-    out: &mut [u8],
-    at: usize,
-    book: &[u8],
-    listing: &[u8],
-    own: usize,
-    instructions: usize,
-) -> usize
+// The whole plate of an accepted listing, as far as the buffer goes, and how many bits it has.
+fn produce(out: &mut [u8], book: &[u8], listing: &[u8], own: usize, instructions: usize) -> usize
     requires { ⌜ (length (now out) ≤ 2953) × (length (bookTexts (now book)) ≤ 65536) × AcceptedAs (now listing) own instructions ⌝ }
-    ensures { λ r. ⌜ (r, bytesBits (now (out .exit))) ≡ poured at (instructionsBits (phrasesIn (now (book .entry)) (now (listing .entry)) own) (instructionsOf (linesOf form.Listing (now (listing .entry))))) (bytesBits (now (out .entry))) ⌝ }
+    ensures { λ r. ⌜ (r, bytesBits (now (out .exit))) ≡ poured 0 (filled (programBits (bookTexts (now (book .entry))) (programIn (now (listing .entry)) own))) (bytesBits (now (out .entry))) ⌝ }
 {
-    let mut end = at;
+    let mut end = writer::put_front(out, listing, own, instructions);
     let mut a = 0;
     while a < listing.len() {
         let e = text::find(listing, a, b'\n');
@@ -36,16 +26,6 @@ fn put_lines(
         end = writer::put_line(out, end, head, line, book, listing, own);
         a = e + 1;
     }
-    end
-}
-
-// The whole plate of an accepted listing, as far as the buffer goes, and how many bits it has.
-fn produce(out: &mut [u8], book: &[u8], listing: &[u8], own: usize, instructions: usize) -> usize
-    requires { ⌜ (length (now out) ≤ 2953) × (length (bookTexts (now book)) ≤ 65536) × AcceptedAs (now listing) own instructions ⌝ }
-    ensures { λ r. ⌜ (r, bytesBits (now (out .exit))) ≡ poured 0 (filled (programBits (bookTexts (now (book .entry))) (programIn (now (listing .entry)) own))) (bytesBits (now (out .entry))) ⌝ }
-{
-    let mut end = writer::put_front(out, listing, own, instructions);
-    end = put_lines(out, end, book, listing, own, instructions);
     writer::put_fill(out, end)
 }
 

@@ -6,9 +6,14 @@ ghost use Rattle.lines.specs.Check.{linesOf};
 ghost use Rattle.listing.specs.Listing.{instructionsOf, firstPast};
 ghost use Rattle.write_plate.specs.Accepted.{AcceptedAs};
 ghost use Rattle.write_plate.specs.Skips.{skipBy, countBy, pastAnswer};
-use crate::Past;
 use lines::Form;
 use lines::Head;
+
+// The first line whose skip goes past the instructions behind it, if there is one.
+pub enum Past {
+    Line(usize),
+    Nowhere,
+}
 
 // The skip of a line; 0 where it has none.
 fn skip_of(head: Head) -> usize
@@ -65,10 +70,11 @@ pub fn first_past(listing: &[u8], own: usize, instructions: usize) -> Past
     while a < listing.len() {
         let e = text::find(listing, a, b'\n');
         let head = lines::read_line(Form::Listing, &listing[a..e]);
-        left -= count_of(head);
-        if left < skip_of(head) {
-            return Past::Line(own + instructions - left);
+        let behind = left - count_of(head);
+        if behind < skip_of(head) {
+            return Past::Line(own + instructions - behind);
         }
+        left = behind;
         a = e + 1;
     }
     Past::Nowhere

@@ -1,4 +1,5 @@
-// The writer of a plate's bits, for the translator and the converter: own phrases, texts, constants and instructions.
+// The writer of a plate's bits, for the translator and the converter: own phrases, texts, constants and instructions; and the room that a
+// plate takes in a lent buffer.
 // Each writer stores its bits from the bit `at` of the lent buffer on, as far as the buffer goes, changes no other bit, and returns the
 // place behind its bits, with room or without: a pass over no buffer at all counts the bits. Its contract says which bits these are, by
 // crate plate's specs/Writing.antt, for a buffer of at most 2,953 bytes, the longest plate.

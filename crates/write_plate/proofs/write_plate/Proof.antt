@@ -1,7 +1,7 @@
 -- `write_plate` meets its contract: the book's refusal, the listing's, a skip's, or what the two passes leave.
 use mathlib.Core.Path.{sym, _∙_}
-use Rattle.write_plate.proofs.Call.{call-book, book-few, call-listing, call-skip, call-written}
 use borrow.Author.Needs.{needs}
+use Rattle.write_plate.proofs.Call.{call-book, book-few, call-listing, call-skip, call-written}
 use Rattle.write_plate.proofs.write_plate.Statement.{statement}
 use Rattle.write_plate.proofs.write_plate.Tie as tie
 
@@ -33,25 +33,36 @@ enum-told-2 : tie.Need-enum-told-2
 enum-told-2 c = search needs
 
 write-requires : tie.Need-write-requires
-write-requires c κs = (
-  book-few _ (sym (c .before .before .before .before .before .before .before .before .before .before .check-book .ensures) ∙ c .before .before .before .before .before .before .before .before .enum-told .given .1),
-  record { book = _; checked = sym (c .before .before .before .before .before .before .before .check .ensures) ∙ c .before .before .before .before .before .own .given .1 },
-)
+write-requires c κs =
+    let check = c .before .before .before .before .before .before .before in
+    let book = sym (check .before .before .before .check-book .ensures) ∙ check .before .enum-told .given .1 in
+    (book-few _ book, record { book = _; checked = sym (check .check .ensures) ∙ c .before .before .before .before .before .own .given .1 })
 
 returns : tie.Need-returns
 returns c = call-book _ _ _ _ (sym (c .before .before .before .check-book .ensures) ∙ c .before .line .given .1)
 
 returns-2 : tie.Need-returns-2
-returns-2 c = call-listing _ _ _ (sym (c .before .before .before .before .before .before .check-book .ensures) ∙ c .before .before .before .before .enum-told .given .1) _ (sym (c .before .before .before .check .ensures) ∙ c .before .r .given .1)
+returns-2 c =
+    let check = c .before .before .before in
+    let book = sym (check .before .before .before .check-book .ensures) ∙ check .before .enum-told .given .1 in
+    call-listing _ _ _ book _ (sym (check .check .ensures) ∙ c .before .r .given .1)
 
 returns-3 : tie.Need-returns-3
-returns-3 c = call-skip _ _ _ (sym (c .before .before .before .before .before .before .before .before .before .before .check-book .ensures) ∙ c .before .before .before .before .before .before .before .before .enum-told .given .1) (sym (c .before .before .before .before .before .before .before .check .ensures) ∙ c .before .before .before .before .before .own .given .1) _ (sym (c .before .before .before .first-past .ensures) ∙ c .before .line2 .given .1)
+returns-3 c =
+    let check = c .before .before .before .before .before .before .before in
+    let book = sym (check .before .before .before .check-book .ensures) ∙ check .before .enum-told .given .1 in
+    let listing = sym (check .check .ensures) ∙ c .before .before .before .before .before .own .given .1 in
+    call-skip _ _ _ book listing _ (sym (c .before .before .before .first-past .ensures) ∙ c .before .line2 .given .1)
 
 same-length : tie.Need-same-length
 same-length c = search needs
 
 returns-4 : tie.Need-returns-4
-returns-4 c = call-written _ _ _ (sym (c .before .before .before .before .before .before .before .before .before .before .before .before .before .check-book .ensures) ∙ c .before .before .before .before .before .before .before .before .before .before .before .enum-told .given .1) (sym (c .before .before .before .before .before .before .before .before .before .before .check .ensures) ∙ c .before .before .before .before .before .before .before .before .own .given .1) _ (sym (c .before .before .before .before .before .before .first-past .ensures) ∙ c .before .before .before .before .enum-told2 .given .1) (c .before .before .write .ensures)
+returns-4 c =
+    let check = c .before .before .before .before .before .before .before .before .before .before in
+    let book = sym (check .before .before .before .check-book .ensures) ∙ check .before .enum-told .given .1 in
+    let listing = sym (check .check .ensures) ∙ c .before .before .before .before .before .before .before .before .own .given .1 in
+    call-written _ _ _ book listing _ (sym (c .before .before .before .before .before .before .first-past .ensures) ∙ c .before .before .before .before .enum-told2 .given .1) (c .before .before .write .ensures)
 
 pub write-plate-spec : {M : Type 1} → statement M
 write-plate-spec =

@@ -1,8 +1,8 @@
 -- `write` meets its contract: 10, 11, or the plate in the part of the buffer that it takes.
 use mathlib.Core.Path.{sym, _∙_}
+use borrow.Author.Needs.{needs}
 use Rattle.plate.specs.Writing.{plateBytes}
 use Rattle.writer.proofs.Plates.{room-fits, room-part, no-room, laid}
-use borrow.Author.Needs.{needs}
 use Rattle.write_plate.proofs.passes.write.Statement.{statement}
 use Rattle.write_plate.proofs.passes.write.Tie as tie
 
@@ -28,7 +28,10 @@ slice-aggregate-produce-2 : tie.Need-slice-aggregate-produce-2
 slice-aggregate-produce-2 c = sym (room-part _ _ (sym (c .before .before .before .before .plate-room .ensures) ∙ c .before .before .length .given .1) .0)
 
 produce-requires-2 : tie.Need-produce-requires-2
-produce-requires-2 c κs = (room-part _ _ (sym (c .before .before .before .before .plate-room .ensures) ∙ c .before .before .length .given .1) .1, c .before .before .before .before .before .before .before .before .before .before .before .pre .0, c .before .before .before .before .before .before .before .before .before .before .before .pre .1)
+produce-requires-2 c κs =
+    let room = c .before .before .before .before in
+    let start = room .before .before .before .before .before .before .before in
+    (room-part _ _ (sym (room .plate-room .ensures) ∙ c .before .before .length .given .1) .1, start .pre .0, start .pre .1)
 
 returns : tie.Need-returns
 unfolding plateBytes
@@ -39,7 +42,12 @@ same-length c = search needs
 
 returns-2 : tie.Need-returns-2
 unfolding plateBytes
-returns-2 c = laid _ _ (c .before .before .before .before .before .before .before .before .before .produce .ensures) _ _ (sym (c .before .before .before .before .before .before .before .plate-room .ensures) ∙ c .before .before .before .before .before .length .given .1) (c .before .before .produce2 .ensures) (λ i. c .before .before .before .before .before .before .before .before .before .before .before .slice-known .given i .fits) (λ i. c .slice-known2 .given i .fits)
+returns-2 c =
+    let room = c .before .before .before .before .before .before .before in
+    let dry = room .before .before in
+    let fits = sym (room .plate-room .ensures) ∙ c .before .before .before .before .before .length .given .1 in
+    let old = dry .before .before .slice-known .given in
+    laid _ _ (dry .produce .ensures) _ _ fits (c .before .before .produce2 .ensures) (λ i. old i .fits) (λ i. c .slice-known2 .given i .fits)
 
 pub write-spec : {M : Type 1} → statement M
 write-spec =

@@ -1,9 +1,9 @@
 -- `first_past` meets its contract: before a no skip goes past, and `left` instructions stand from there on.
-use borrow.Author.Needs.{needs}
 use Prim.Native.Nat.{_-_}
 use native.Mathlib.Omega.{arith}
 use mathlib.Core.Path.{sym, ap}
 use lib.ListN.{length}
+use borrow.Author.Needs.{needs}
 use Rattle.write_plate.specs.Skips.{pastAnswer}
 use Rattle.write_plate.proofs.AcceptedListing.{few-own, few-instructions}
 use Rattle.write_plate.proofs.Searched.{Searched, searched-none, searched-end, counts-one, goes-past, goes-on}
@@ -37,20 +37,29 @@ read-line-requires c κs = search needs
 count-of-requires : tie.Need-count-of-requires Inv-loop μ-loop
 count-of-requires c κs = search needs
 
-sub-left : tie.Need-sub-left Inv-loop μ-loop
-sub-left c = counts-one (c .before .before .before .before .before .loop .inv) (c .before .before .before .before .loop-test .taken) (c .before .before .before .find .ensures .0) (c .before .before .before .find .ensures .1) (c .before .read-line .ensures) (c .count-of .ensures)
+sub-behind : tie.Need-sub-behind Inv-loop μ-loop
+sub-behind c =
+    let f = c .before .before .before in
+    let e = f .find .ensures in
+    counts-one (f .before .before .loop .inv) (f .before .loop-test .taken) (e .0) (e .1) (c .before .read-line .ensures) (c .count-of .ensures)
 
 skip-of-requires : tie.Need-skip-of-requires Inv-loop μ-loop
 skip-of-requires c κs = search needs
 
-add-t14 : tie.Need-add-t14 Inv-loop μ-loop
-add-t14 c = omega (arith, few-own (c .before .before .before .before .before .before .before .before .before .pre), few-instructions (c .before .before .before .before .before .before .before .before .before .pre))
+add-t15 : tie.Need-add-t15 Inv-loop μ-loop
+add-t15 c = let start = c .before .before .before .before .before .before .before .before .before in omega (arith, few-own (start .pre), few-instructions (start .pre))
 
-sub-t15 : tie.Need-sub-t15 Inv-loop μ-loop
-sub-t15 c = omega (arith, c .before .before .before .before .before .before .before .loop .inv .few)
+sub-t16 : tie.Need-sub-t16 Inv-loop μ-loop
+sub-t16 c = omega (arith, c .before .before .before .before .before .before .before .loop .inv .few)
 
 returns : tie.Need-returns Inv-loop μ-loop
-returns c = sym (ap pastAnswer (goes-past (c .before .before .before .before .before .before .before .loop .inv) (c .before .before .before .before .before .before .loop-test .taken) (c .before .before .before .before .before .find .ensures .0) (c .before .before .before .before .before .find .ensures .1) (c .before .before .before .read-line .ensures) (c .before .before .count-of .ensures) (c .before .skip-of .ensures) (c .if1 .taken)))
+returns c =
+    let f = c .before .before .before .before .before in
+    let e = f .find .ensures in
+    let head = c .before .before .before .read-line .ensures in
+    let test = f .before .loop-test .taken in
+    let past = goes-past (f .before .before .loop .inv) test (e .0) (e .1) head (c .before .before .count-of .ensures) (c .before .skip-of .ensures) (c .if1 .taken) in
+    sym (ap pastAnswer past)
 
 add-a : tie.Need-add-a Inv-loop μ-loop
 add-a c = search needs
@@ -59,7 +68,12 @@ loop-less : tie.Need-loop-less Inv-loop μ-loop
 loop-less c = search needs
 
 loop-again : tie.Need-loop-again Inv-loop μ-loop
-loop-again c = goes-on (c .before .before .before .before .before .before .before .loop .inv) (c .before .before .before .before .before .before .loop-test .taken) (c .before .before .before .before .before .find .ensures .0) (c .before .before .before .before .before .find .ensures .1) (c .before .before .before .read-line .ensures) (c .before .before .count-of .ensures) (c .before .skip-of .ensures) (c .if1 .left)
+loop-again c =
+    let f = c .before .before .before .before .before in
+    let e = f .find .ensures in
+    let head = c .before .before .before .read-line .ensures in
+    let test = f .before .loop-test .taken in
+    goes-on (f .before .before .loop .inv) test (e .0) (e .1) head (c .before .before .count-of .ensures) (c .before .skip-of .ensures) (c .if1 .left)
 
 returns-2 : tie.Need-returns-2 Inv-loop μ-loop
 returns-2 c = sym (ap pastAnswer (searched-end (c .before .loop .inv) (c .loop-test .left)))
@@ -77,10 +91,10 @@ first-past-spec =
     part-read-line-end
     read-line-requires
     count-of-requires
-    sub-left
+    sub-behind
     skip-of-requires
-    add-t14
-    sub-t15
+    add-t15
+    sub-t16
     returns
     add-a
     loop-less

@@ -22,7 +22,8 @@ use Rattle.listing.specs.Listing.{instructionsOf, firstPast, within, listingPro
 use Rattle.listing.specs.Calls.{writtenPlate, writePlateCall}
 use Rattle.write_plate.specs.declared.skips.Past.{Past}
 use Rattle.write_plate.specs.declared.skips.Past.the-variants as past
-use Rattle.write_plate.specs.Accepted.{AcceptedAs, programIn, lentPlate}
+use Rattle.writer.specs.Plates.{lentPlate}
+use Rattle.write_plate.specs.Accepted.{AcceptedAs, programIn}
 use Rattle.write_plate.specs.Skips.{pastAnswer}
 use Rattle.write_plate.proofs.AcceptedListing.{phrases-count}
 

@@ -1,7 +1,7 @@
 -- The characters of a plate as the code reads them: one by one up to ETX, and so many from a bit on.
 use Prim.Native.Nat.{ℕ, zero, suc, _+_, _-_, _*_, _≤_, _<_}
 use mathlib.Core.Path.{_≡_, refl, sym, ap, subst, _∙_}
-use mathlib.Core.List.{List, [], _∷_, _++_, append-nil, append-assoc}
+use mathlib.Core.List.{List, [], _∷_, _++_, append-nil}
 use mathlib.Core.Bool.{Bool, true, _||_}
 use native.Mathlib.Nat.{sub-zero}
 use native.Mathlib.Numerals.{add-one}
@@ -22,6 +22,7 @@ use Rattle.plate.specs.Plate.{character, upToETX, characters}
 use Rattle.fields.specs.Places.{placeAt, charactersIn, untilETX}
 use Rattle.plate.proofs.Readers.{Told, here, gives-number, gives-judged}
 use Rattle.fields.proofs.Onward.{then-got, then-stopped}
+use Rattle.fields.proofs.Behind.{behind, behind-none, behind-one}
 
 -- one character more
 pub characters-more : (n : ℕ) (bs : List Bool) → charactersIn (suc n) bs ≡ charactersIn n bs ++ (valueOf (take 7 (drop (n * 7) bs)) ∷ [])
@@ -62,28 +63,10 @@ character-read {c} {next} plate bit e =
 
 -- ---- up to ETX
 
--- what is read behind some text
-abbrev pub behindText : Text → Read Text → Read Text
-behindText front (got t q) = got (front ++ t) q
-behindText front (stopped cause bit) = stopped cause bit
-
-behind-none : (m : Read Text) → behindText [] m ≡ m
-behind-none (got t q) = refl
-behind-none (stopped cause bit) = refl
-
-behind-one : (front : Text) (c : ℕ) (r : Reader Text) (q : Place)
-    → behindText front ((r >>= λ t. return (c ∷ t)) q) ≡ behindText (front ++ (c ∷ [])) (r q)
-unfolding _>>=_ return
-behind-one front c r q = go (r q)
-  where
-    go : (m : Read Text) → behindText front (onward m (λ t. return (c ∷ t))) ≡ behindText (front ++ (c ∷ [])) m
-    go (got t q) = ap (λ l. got l q) (sym (append-assoc front (c ∷ []) t))
-    go (stopped cause bit) = refl
-
 -- the characters of `size` and those behind them are the whole text
 pub record SizeSoFar (plate : List ℕ) (at size bit : ℕ) : Type 0 where
   pub place : bit ≡ at + size * 7
-  pub whole : behindText (charactersIn size (drop at (bytesBits plate)))
+  pub whole : behind (charactersIn size (drop at (bytesBits plate)))
       (characters (length plate * 8 - at - size) (placeAt plate bit)) ≡ untilETX (placeAt plate at)
 
 left-at : (plate : List ℕ) (at : ℕ) → length (placeAt plate at .left) ≡ length plate * 8 - at
@@ -120,7 +103,7 @@ module _ {plate : List ℕ} {at size bit : ℕ} (s : SizeSoFar plate at size bit
       → stopped cause b ≡ untilETX (placeAt plate at)
   size-stopped e =
       let few : length (placeAt plate bit .left) ≤ length plate * 8 - at - size = omega (arith, left-at plate bit, s .place) in
-      ap (behindText front) (ends-here (placeAt plate bit) _ few e) ∙ s .whole
+      ap (behind front) (ends-here (placeAt plate bit) _ few e) ∙ s .whole
 
   module _ (c next : ℕ) (e : got c (placeAt plate next) ≡ character (placeAt plate bit)) where
     abbrev read : Character plate bit c next
@@ -129,11 +112,11 @@ module _ {plate : List ℕ} {at size bit : ℕ} (s : SizeSoFar plate at size bit
     more : length plate * 8 - at - size ≡ suc (length plate * 8 - at - (size + 1))
     more = omega (arith, s .place, read .room)
 
-    on : behindText front (upToETX (eqb c ETX) c (characters (length plate * 8 - at - (size + 1))) (placeAt plate next)) ≡ untilETX
+    on : behind front (upToETX (eqb c ETX) c (characters (length plate * 8 - at - (size + 1))) (placeAt plate next)) ≡ untilETX
         (placeAt plate at)
     on =
-        ap (behindText front) (goes-on (placeAt plate bit) (placeAt plate next) _ c e)
-        ∙ ap (λ f. behindText front (characters f (placeAt plate bit))) (sym more) ∙ s .whole
+        ap (behind front) (goes-on (placeAt plate bit) (placeAt plate next) _ c e)
+        ∙ ap (λ f. behind front (characters f (placeAt plate bit))) (sym more) ∙ s .whole
 
     pub size-ended : c ≡ 3 → got front (placeAt plate next) ≡ untilETX (placeAt plate at)
     unfolding return
@@ -149,6 +132,6 @@ module _ {plate : List ℕ} {at size bit : ℕ} (s : SizeSoFar plate at size bit
         record {
           place = omega (arith, s .place, read .behind);
           whole =
-              ap (λ l. behindText l (characters (length plate * 8 - at - (size + 1)) (placeAt plate next))) (sym longer)
+              ap (λ l. behind l (characters (length plate * 8 - at - (size + 1)) (placeAt plate next))) (sym longer)
               ∙ sym (behind-one front c (characters (length plate * 8 - at - (size + 1))) (placeAt plate next)) ∙ rw (ne-eqb c 3 h) at on;
         }

@@ -1,4 +1,5 @@
 pub mod Onward
+pub mod Behind
 pub mod Characters
 pub mod CharacterBits
 pub mod Copied

@@ -10,7 +10,14 @@ use instructions::InstructionRead;
 use instructions::read_instruction;
 
 // The bit behind n instructions.
-pub fn pass_instructions(plate: &[u8], at: usize, n: usize, book: &[u8], own: &[u8], count: usize) -> Field
+pub fn pass_instructions(
+    plate: &[u8],
+    at: usize,
+    n: usize,
+    book: &[u8],
+    own: &[u8],
+    count: usize,
+) -> Field
     requires { ⌜ Lent (now plate) (now book) (now own) count ⌝ }
     ensures { λ r. ⌜ fieldRead (now (plate .entry)) r ≡ endWith n (many (instruction (phrasesIn (now (book .entry)) (now (own .entry)) count)) n (placeAt (now (plate .entry)) at)) ⌝ }
 {

@@ -1,0 +1,97 @@
+-- The own phrases that were read and written so far, and those behind them.
+use Prim.Native.Nat.{ℕ, zero, suc, _+_, _-_, _*_, _≤_, _<_}
+use mathlib.Core.Path.{_≡_, refl, sym, ap, _∙_}
+use mathlib.Core.List.{List, [], _∷_, _++_, append-nil}
+use mathlib.Core.Bool.{true}
+use native.Mathlib.Nat.{sub-zero}
+use native.Mathlib.Omega.{arith}
+use lib.ListN.{length, drop, length-append}
+use Rattle.causes.specs.declared.Cause.{Cause}
+use Rattle.output.specs.Pour.{poured}
+use Rattle.output.proofs.Pour.{none, then, pour-fits}
+use Rattle.output.proofs.Poured.{stored}
+use Rattle.text.specs.Parts.{all}
+use Rattle.text.specs.Text.{Text, isText}
+use Rattle.text.proofs.Valid.{TextOk, TextsOk}
+use Rattle.text.proofs.Tests.{all-append, all-cons}
+use Rattle.phrases.specs.Lookup.{bookTexts, ownTexts}
+use Rattle.plate.specs.Reading.{Place, got, stopped, return, _>>=_}
+use Rattle.plate.specs.Plate.{spelled, ownFrom}
+use Rattle.plate.proofs.Spelled.{gives-spelled}
+use Rattle.fields.specs.Places.{placeAt}
+use Rattle.fields.proofs.Onward.{then-got, then-stopped, got-good}
+use Rattle.fields.proofs.Behind.{behind, behind-none, behind-one}
+use Rattle.reader.specs.Own.{phraseLine}
+use Rattle.reader.proofs.OwnLines.{ownLines, lines-more, lines-texts, lines-length}
+
+-- k of them are read and written, and with those behind them they are all own phrases
+pub record OwnSoFar (plate book : List ℕ) (at count : ℕ) (old own : List ℕ) (bit end k : ℕ) : Type 0 where
+  pub texts : List Text
+  pub number : length texts ≡ k
+  pub good : TextsOk texts
+  pub written : (end, own) ≡ poured 0 (ownLines texts) old
+  pub whole : behind texts (ownFrom (bookTexts book) texts (count - k) (placeAt plate bit))
+      ≡ ownFrom (bookTexts book) [] count (placeAt plate at)
+
+pub own-start : (plate book : List ℕ) (at count : ℕ) (own : List ℕ) → OwnSoFar plate book at count own own at 0 0
+unfolding ownLines all
+own-start plate book at count own =
+    record {
+      texts = [];
+      number = refl;
+      good = refl;
+      written = none 0 own (omega arith);
+      whole = behind-none _ ∙ ap (λ n. ownFrom (bookTexts book) [] n (placeAt plate at)) (sub-zero count);
+    }
+
+module _ {plate book : List ℕ} {at count : ℕ} {old own : List ℕ} {bit end k : ℕ} (s : OwnSoFar plate book at count old own bit end k)
+    (few : k ≤ 32) (room : 2304 ≤ length old) where
+  pub own-texts : ownTexts k own ≡ s .texts
+  own-texts =
+      let lines = ownLines (s .texts) in
+      let fits : length lines ≤ length old = omega (arith, lines-length (s .texts) (s .good), s .number) in
+      let front : own ≡ lines ++ drop (length lines) old = stored 0 lines old end own (s .written) ∙ pour-fits lines old fits in
+      ap (ownTexts k) front ∙ ap (λ n. ownTexts n (lines ++ drop (length lines) old)) (sym (s .number))
+      ∙ lines-texts (s .texts) (drop (length lines) old) (s .good)
+
+  pub own-there : length (ownTexts k own) ≡ k
+  own-there = ap length own-texts ∙ s .number
+
+  pub own-ended : k ≡ count → got (ownTexts count own) (placeAt plate bit) ≡ ownFrom (bookTexts book) [] count (placeAt plate at)
+  unfolding ownFrom return
+  own-ended e =
+      let z : count - k ≡ 0 = omega arith in
+      let all-read : got (s .texts ++ []) (placeAt plate bit) ≡ ownFrom (bookTexts book) [] count (placeAt plate at) = rw z at (s .whole) in
+      ap (λ n. got (ownTexts n own) (placeAt plate bit)) (sym e)
+      ∙ ap (λ ts. got ts (placeAt plate bit)) (own-texts ∙ sym (append-nil (s .texts))) ∙ all-read
+
+  module _ (more : k < count) where
+    one-left : count - k ≡ suc (count - (k + 1))
+    one-left = omega arith
+
+    pub own-stopped : {cause : Cause} {b : ℕ} → stopped cause b ≡ spelled (bookTexts book) (ownTexts k own) (placeAt plate bit)
+        → stopped cause b ≡ ownFrom (bookTexts book) [] count (placeAt plate at)
+    unfolding ownFrom
+    own-stopped e =
+        let e′ = rw own-texts at e in
+        ap (behind (s .texts)) (then-stopped (spelled (bookTexts book) (s .texts)) _ (placeAt plate bit) e′)
+        ∙ (rw one-left at (s .whole))
+
+    pub own-more : (t : Text) (next : ℕ) (own′ : List ℕ) (end′ : ℕ) → length old < 9223372036854775808
+        → got t (placeAt plate next) ≡ spelled (bookTexts book) (ownTexts k own) (placeAt plate bit)
+        → (end′, own′) ≡ poured end (phraseLine t) own → OwnSoFar plate book at count old own′ next end′ (k + 1)
+    unfolding ownFrom all
+    own-more t next own′ end′ counted e w =
+        let e′ = rw own-texts at e in
+        let ok = got-good (placeAt plate bit) (gives-spelled (bookTexts book) (s .texts)) e′ .0 in
+        let n = count - (k + 1) in
+        record {
+          texts = s .texts ++ (t ∷ []);
+          number = simp length-append (omega (arith, s .number));
+          good = all-append isText (s .texts) (t ∷ []) (s .good) (all-cons isText t [] ok refl);
+          written = rw lines-more at (then 0 (ownLines (s .texts)) (phraseLine t) old end own (end′, own′) (s .written) w counted);
+          whole =
+              sym (behind-one (s .texts) t (ownFrom (bookTexts book) (s .texts ++ (t ∷ [])) n) (placeAt plate next))
+              ∙ ap (behind (s .texts)) (then-got (spelled (bookTexts book) (s .texts)) _ (placeAt plate bit) e′)
+              ∙ (rw one-left at (s .whole));
+        }

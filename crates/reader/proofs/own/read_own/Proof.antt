@@ -1,0 +1,53 @@
+-- `read_own` meets its contract: the number, then so many phrases.
+use mathlib.Core.Path.{ap, _∙_}
+use native.Mathlib.Omega.{arith}
+use borrow.Author.Needs.{needs}
+use Rattle.plate.proofs.OwnPhrases.{gives-count}
+use Rattle.fields.proofs.Onward.{then-got, then-stopped, got-good}
+use Rattle.fields.proofs.Answers.{field-got, field-refused}
+use Rattle.reader.specs.Own.{ownPhrases, ownRead}
+use Rattle.reader.proofs.OwnAnswers.{none-there}
+use Rattle.reader.proofs.own.read_own.Statement.{statement}
+use Rattle.reader.proofs.own.read_own.Tie as tie
+
+read-count-requires : tie.Need-read-count-requires
+read-count-requires c κs = search needs
+
+enum-known-field : tie.Need-enum-known-field
+enum-known-field c = search needs
+
+enum-told : tie.Need-enum-told
+enum-told c = search needs
+
+returns : tie.Need-returns
+unfolding ownPhrases
+returns c = (
+  ap (ownRead _ _) (c .enum-told .given .1)
+      ∙ then-stopped _ _ _ (field-refused _ _ (c .before .before .read-count .ensures) (c .enum-told .given .1)),
+  none-there _ _ (c .enum-told .given .1),
+)
+
+read-phrases-requires : tie.Need-read-phrases-requires
+read-phrases-requires c κs = (search needs, got-good _ gives-count (field-got _ _ (c .before .before .before .before .read-count .ensures) (c .before .before .field .given .1)), search needs)
+
+same-length : tie.Need-same-length
+same-length c = search needs
+
+returns-2 : tie.Need-returns-2
+unfolding ownPhrases
+returns-2 c = (
+  c .before .before .read-phrases .ensures .0 ∙ then-got _ _ _ (field-got _ _ (c .before .before .before .before .before .before .before .read-count .ensures) (c .before .before .before .before .before .field .given .1)),
+  c .before .before .read-phrases .ensures .1,
+)
+
+pub read-own-spec : {M : Type 1} → statement M
+read-own-spec =
+    tie.close
+    (tie.spec
+    read-count-requires
+    enum-known-field
+    enum-told
+    returns
+    read-phrases-requires
+    same-length
+    returns-2)

@@ -1,0 +1,79 @@
+// The own phrases of a plate: their number, and each phrase, judged against the book and the earlier ones and written as a line
+// `phrase,TEXT`.
+ghost use mathlib.Core.Path.{_≡_};
+ghost use mathlib.Core.List.{[]};
+ghost use Prim.Native.Nat.{_≤_};
+ghost use lib.ListN.{length, drop};
+ghost use Rattle.output.specs.Pour.{poured};
+ghost use Rattle.bits.specs.Bits.{bytesBits};
+ghost use Rattle.phrases.specs.Lookup.{bookTexts};
+ghost use Rattle.plate.specs.Plate.{ownCount, ownFrom};
+ghost use Rattle.fields.specs.Places.{placeAt, fieldRead, charactersIn};
+ghost use Rattle.reader.specs.Own.{phraseLine, ownPhrases, ownRead, OwnThere};
+use fields::Field;
+use fields::put_characters;
+use fields::read_plain;
+use instructions::read_spelled;
+
+// How many own phrases there are: a bit, and 5 bits for their number less one.
+fn read_count(plate: &[u8], at: usize) -> Field
+    requires { ⌜ length (now plate) ≤ 2953 ⌝ }
+    ensures { λ r. ⌜ fieldRead (now (plate .entry)) r ≡ ownCount (placeAt (now (plate .entry)) at) ⌝ }
+{
+    let first = read_plain(plate, at, 1);
+    let Field::Is(bit, next) = first else {
+        return first;
+    };
+    if bit == 0 {
+        return Field::Is(0, next);
+    }
+    let second = read_plain(plate, next, 5);
+    let Field::Is(less, end) = second else {
+        return second;
+    };
+    Field::Is(less + 1, end)
+}
+
+// A line `phrase,TEXT` of so many characters from a bit on.
+fn put_phrase(plate: &[u8], bit: usize, size: usize, own: &mut [u8], at: usize) -> usize
+    requires { ⌜ length (now plate) ≤ 2953 ⌝ }
+    ensures { λ r. ⌜ (r, now (own .exit)) ≡ poured at (phraseLine (charactersIn size (drop bit (bytesBits (now (plate .entry)))))) (now (own .entry)) ⌝ }
+{
+    let text_at = text::put(own, at, b"phrase,");
+    let end = put_characters(plate, bit, size, own, text_at);
+    text::put_byte(own, end, b'\n')
+}
+
+// So many own phrases from a bit on.
+fn read_phrases(plate: &[u8], at: usize, count: usize, book: &[u8], own: &mut [u8]) -> Field
+    requires { ⌜ (length (now plate) ≤ 2953) × (count ≤ 32) × (2304 ≤ length (now own)) ⌝ }
+    ensures { λ r. ⌜ ownRead (now (plate .entry)) (now (own .exit)) r ≡ ownFrom (bookTexts (now (book .entry))) [] count (placeAt (now (plate .entry)) at) ⌝ }
+    ensures { λ r. ⌜ OwnThere (now (own .exit)) r ⌝ }
+{
+    let mut bit = at;
+    let mut end = 0;
+    let mut k = 0;
+    while k < count {
+        let field = read_spelled(plate, bit, book, own, k);
+        let Field::Is(size, next) = field else {
+            return field;
+        };
+        end = put_phrase(plate, bit, size, own, end);
+        bit = next;
+        k += 1;
+    }
+    Field::Is(count, bit)
+}
+
+// The own phrases of a plate, as lines at the front of `own`. What stands there behind the lines, or where the plate is refused, is open.
+pub fn read_own(plate: &[u8], book: &[u8], own: &mut [u8]) -> Field
+    requires { ⌜ (length (now plate) ≤ 2953) × (2304 ≤ length (now own)) ⌝ }
+    ensures { λ r. ⌜ ownRead (now (plate .entry)) (now (own .exit)) r ≡ ownPhrases (bookTexts (now (book .entry))) (placeAt (now (plate .entry)) 0) ⌝ }
+    ensures { λ r. ⌜ OwnThere (now (own .exit)) r ⌝ }
+{
+    let field = read_count(plate, 0);
+    let Field::Is(count, next) = field else {
+        return field;
+    };
+    read_phrases(plate, next, count, book, own)
+}

@@ -5,3 +5,4 @@ pub mod OwnNumber
 pub mod OwnLines
 pub mod OwnSoFar
 pub mod OwnAnswers
+pub mod FillingBits

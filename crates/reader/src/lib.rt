@@ -2,6 +2,7 @@
 // causes 10, 12, 13, 14, 8 and 15 at the exact bit.
 // specs/Contents.antt says which program a plate's contents are. The own phrases are written once, as lines `phrase,TEXT`, into a buffer
 // that the caller lends; instructions stay where they are, and are read again one by one.
+mod filling;
 mod own;
 mod passing;
 

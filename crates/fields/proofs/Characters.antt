@@ -17,7 +17,7 @@ use Rattle.bits.proofs.Numbers.{length-bitsOf, value-of-bits}
 use Rattle.bits.proofs.Bytes.{length-bytesBits}
 use Rattle.text.specs.Text.{Text, textByte}
 use Rattle.plate.specs.Writing.{ETX}
-use Rattle.plate.specs.Reading.{Place, Read, got, stopped, Reader, number, judged, return, onward, _>>=_}
+use Rattle.plate.specs.Reading.{Place, got, stopped, number, judged, return, onward}
 use Rattle.plate.specs.Plate.{character, upToETX, characters}
 use Rattle.fields.specs.Places.{placeAt, charactersIn, untilETX}
 use Rattle.plate.proofs.Readers.{Told, here, gives-number, gives-judged}

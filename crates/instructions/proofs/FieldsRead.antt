@@ -13,16 +13,17 @@ use Rattle.plate.specs.Plate.{text, options, fieldsBy}
 use Rattle.fields.specs.Places.{endWith, valuesOf}
 use Rattle.fields.proofs.Onward.{then-got, then-stopped}
 
--- ---- texts of which only the end is known
+-- ---- values of which only the end is known
 
-ended-got : (n v : ℕ) (s : Place) (m : Read (List Text)) → got v s ≡ endWith n m → got (valuesOf m) s ≡ m
-ended-got n v s (got ts q) e = let same : s ≡ q = cc in ap (got ts) same
-ended-got n v s (stopped cause bit) e = let z : _≡_ {A = ℕ} 0 1 = cc in absurd (omega arith)
+module _ {A : Type 0} where
+  pub ended-got : (n v : ℕ) (s : Place) (m : Read (List A)) → got v s ≡ endWith n m → got (valuesOf m) s ≡ m
+  ended-got n v s (got ts q) e = let same : s ≡ q = cc in ap (got ts) same
+  ended-got n v s (stopped cause bit) e = let z : _≡_ {A = ℕ} 0 1 = cc in absurd (omega arith)
 
-ended-stopped : (n : ℕ) (m : Read (List Text)) {cause : Cause} {bit : ℕ} → stopped cause bit ≡ endWith n m → stopped cause bit ≡ m
-unfolding return
-ended-stopped n (got ts q) e = let z : _≡_ {A = ℕ} 0 1 = cc in absurd (omega arith)
-ended-stopped n (stopped cause bit) e = ap (λ m. onward m (λ k. return {A = List Text} [])) e
+  pub ended-stopped : (n : ℕ) (m : Read (List A)) {cause : Cause} {bit : ℕ} → stopped cause bit ≡ endWith n m → stopped cause bit ≡ m
+  unfolding return
+  ended-stopped n (got ts q) e = let z : _≡_ {A = ℕ} 0 1 = cc in absurd (omega arith)
+  ended-stopped n (stopped cause bit) e = ap (λ m. onward m (λ k. return {A = List A} [])) e
 
 module _ (c : Phrases) (p q : Place) (k : ℕ) (e : got k q ≡ judged (number 3) (λ k. leb k 6) Unused p) where
   abbrev all : Read (List Text)

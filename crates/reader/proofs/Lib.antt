@@ -6,3 +6,4 @@ pub mod OwnLines
 pub mod OwnSoFar
 pub mod OwnAnswers
 pub mod FillingBits
+pub mod WholePlate

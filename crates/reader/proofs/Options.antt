@@ -8,7 +8,7 @@ use Rattle.text.specs.Text.{Text}
 use Rattle.phrases.specs.Phrases.{Phrases}
 use Rattle.phrases.specs.Lookup.{phrasesIn}
 use Rattle.transcript.specs.declared.Test.{Test}
-use Rattle.plate.specs.Reading.{Place, Read, got, stopped, many}
+use Rattle.plate.specs.Reading.{Read, got, stopped, many}
 use Rattle.plate.specs.Plate.{text, instruction}
 use Rattle.fields.specs.Places.{placeAt, valuesOf}
 use Rattle.instructions.specs.declared.TextAt.{TextAt}
@@ -18,7 +18,7 @@ use Rattle.instructions.specs.declared.InstructionRead.the-variants.{Is}
 use Rattle.instructions.specs.TextsAt.{instructionAt, instructionRead}
 use Rattle.reader.specs.Holding.{There}
 use Rattle.reader.proofs.Next.{there-length}
-use Rattle.reader.proofs.Ranges.{InRange, read-good, reads-instruction}
+use Rattle.reader.proofs.Ranges.{read-good, reads-instruction}
 
 -- the options that stand from a bit on
 abbrev pub optionsAt : List ℕ → Phrases → ℕ → ℕ → List Text

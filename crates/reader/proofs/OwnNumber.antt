@@ -2,7 +2,6 @@
 use Prim.Native.Nat.{ℕ, zero, suc, _+_}
 use native.Mathlib.Numerals.{add-one}
 use mathlib.Core.Path.{_≡_, refl, sym, ap, _∙_}
-use mathlib.Core.List.{List}
 use Rattle.causes.specs.declared.Cause.{Cause}
 use Rattle.plate.specs.Reading.{Place, got, stopped, number, return}
 use Rattle.plate.specs.Plate.{ownCountBy, ownCount}

@@ -1,8 +1,7 @@
 -- The own phrases that were read and written so far, and those behind them.
-use Prim.Native.Nat.{ℕ, zero, suc, _+_, _-_, _*_, _≤_, _<_}
+use Prim.Native.Nat.{ℕ, suc, _+_, _-_, _≤_, _<_}
 use mathlib.Core.Path.{_≡_, refl, sym, ap, _∙_}
 use mathlib.Core.List.{List, [], _∷_, _++_, append-nil}
-use mathlib.Core.Bool.{true}
 use native.Mathlib.Nat.{sub-zero}
 use native.Mathlib.Omega.{arith}
 use lib.ListN.{length, drop, length-append}
@@ -12,10 +11,10 @@ use Rattle.output.proofs.Pour.{none, then, pour-fits}
 use Rattle.output.proofs.Poured.{stored}
 use Rattle.text.specs.Parts.{all}
 use Rattle.text.specs.Text.{Text, isText}
-use Rattle.text.proofs.Valid.{TextOk, TextsOk}
+use Rattle.text.proofs.Valid.{TextsOk}
 use Rattle.text.proofs.Tests.{all-append, all-cons}
 use Rattle.phrases.specs.Lookup.{bookTexts, ownTexts}
-use Rattle.plate.specs.Reading.{Place, got, stopped, return, _>>=_}
+use Rattle.plate.specs.Reading.{got, stopped, return}
 use Rattle.plate.specs.Plate.{spelled, ownFrom}
 use Rattle.plate.proofs.Spelled.{gives-spelled}
 use Rattle.fields.specs.Places.{placeAt}

@@ -9,7 +9,6 @@ use borrow.Author.Tests.{leb-true}
 use Rattle.causes.specs.declared.Cause.{Cause}
 use Rattle.phrases.specs.Phrases.{Phrases}
 use Rattle.transcript.specs.Statement.{input, inputs, print, printex}
-use Rattle.transcript.specs.declared.Test.{Test}
 use Rattle.plate.specs.Program.{Instruction, statement, goto, ifSkip}
 use Rattle.plate.specs.Reading.{Place, Read, got, stopped, Reader, number, judge, judgeRead, judged, return, onward, _>>=_, many}
 use Rattle.plate.specs.Plate.{text, test, skip, constant, options, fieldsBy, instruction}

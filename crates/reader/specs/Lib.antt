@@ -1,3 +1,4 @@
 pub mod Holding
 pub mod Own
 pub mod Filled
+pub mod Whole

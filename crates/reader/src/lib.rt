@@ -1,13 +1,15 @@
 // The whole plate, read before anything is made of it: its own phrases, its instruction count, its instructions and the filling, with
 // causes 10, 12, 13, 14, 8 and 15 at the exact bit.
-// specs/Contents.antt says which program a plate's contents are. The own phrases are written once, as lines `phrase,TEXT`, into a buffer
+// specs/Holding.antt says which program a plate's contents are. The own phrases are written once, as lines `phrase,TEXT`, into a buffer
 // that the caller lends; instructions stay where they are, and are read again one by one.
 mod filling;
 mod own;
 mod passing;
+mod whole;
 
 use causes::Refusal;
 pub use passing::pass_instructions;
+pub use whole::read_contents;
 
 // What a plate holds: how many own phrases and instructions, and the bit of the first instruction.
 pub struct Contents {

@@ -1,6 +1,5 @@
 -- `is_filled` meets its contract: no bits, a whole byte or more, or fewer that are read as one number.
 use mathlib.Core.Path.{refl, sym, _∙_}
-use native.Mathlib.Omega.{arith}
 use borrow.Author.Needs.{needs}
 use Rattle.reader.proofs.FillingBits.{filling-none, filling-byte, filling-there, filling-value}
 use Rattle.reader.proofs.filling.is_filled.Statement.{statement}

@@ -1,7 +1,7 @@
 -- `put_phrase` meets its contract: three writings, one behind the other.
 use native.Mathlib.Omega.{arith}
 use borrow.Author.Needs.{needs}
-use Rattle.output.proofs.Pour.{then, kept}
+use Rattle.output.proofs.Pour.{then}
 use Rattle.reader.specs.Own.{phraseLine}
 use Rattle.reader.proofs.own.put_phrase.Statement.{statement}
 use Rattle.reader.proofs.own.put_phrase.Tie as tie
@@ -23,7 +23,8 @@ same-length c = search needs
 
 returns : tie.Need-returns
 unfolding phraseLine
-returns c = let e = then _ _ _ _ _ _ _ (c .before .before .before .before .before .before .before .before .before .before .put .ensures) (c .before .before .before .before .before .before .put-characters .ensures) (omega arith) in
+returns c = let e = then _ _ _ _ _ _ _ (c .before .before .before .before .before .before .before .before .before .before .put .ensures)
+    (c .before .before .before .before .before .before .put-characters .ensures) (omega arith) in
     then _ _ _ _ _ _ _ e (c .before .before .put-byte .ensures) (omega arith)
 
 pub put-phrase-spec : {M : Type 1} → statement M

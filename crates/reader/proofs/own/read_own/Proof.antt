@@ -1,6 +1,5 @@
 -- `read_own` meets its contract: the number, then so many phrases.
 use mathlib.Core.Path.{ap, _∙_}
-use native.Mathlib.Omega.{arith}
 use borrow.Author.Needs.{needs}
 use Rattle.plate.proofs.OwnPhrases.{gives-count}
 use Rattle.fields.proofs.Onward.{then-got, then-stopped, got-good}
@@ -28,7 +27,12 @@ returns c = (
 )
 
 read-phrases-requires : tie.Need-read-phrases-requires
-read-phrases-requires c κs = (search needs, got-good _ gives-count (field-got _ _ (c .before .before .before .before .read-count .ensures) (c .before .before .field .given .1)), search needs)
+read-phrases-requires c κs = (
+  search needs,
+  got-good _ gives-count (field-got _ _ (c .before .before .before .before .read-count .ensures)
+      (c .before .before .field .given .1)),
+  search needs,
+)
 
 same-length : tie.Need-same-length
 same-length c = search needs
@@ -36,7 +40,9 @@ same-length c = search needs
 returns-2 : tie.Need-returns-2
 unfolding ownPhrases
 returns-2 c = (
-  c .before .before .read-phrases .ensures .0 ∙ then-got _ _ _ (field-got _ _ (c .before .before .before .before .before .before .before .read-count .ensures) (c .before .before .before .before .before .field .given .1)),
+  c .before .before .read-phrases .ensures .0 ∙ then-got _ _ _
+      (field-got _ _ (c .before .before .before .before .before .before .before .read-count .ensures)
+      (c .before .before .before .before .before .field .given .1)),
   c .before .before .read-phrases .ensures .1,
 )
 

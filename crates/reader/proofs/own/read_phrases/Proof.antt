@@ -53,8 +53,10 @@ loop-less c = search needs
 
 loop-again : tie.Need-loop-again Inv-loop μ-loop
 loop-again c = let s = c .before .before .before .before .before .before .before .before .before .before .loop .inv in (
-  own-more (s .0) (omega arith) (search needs) (c .before .before .before .before .before .before .before .before .before .loop-test .taken) _ _ _ _ (omega arith)
-      (size-got _ _ _ (c .before .before .before .before .before .before .before .read-spelled .ensures) (c .before .before .before .before .before .field .given .1)) (c .before .before .put-phrase .ensures),
+  own-more (s .0) (omega arith) (search needs)
+      (c .before .before .before .before .before .before .before .before .before .loop-test .taken) _ _ _ _ (omega arith)
+      (size-got _ _ _ (c .before .before .before .before .before .before .before .read-spelled .ensures)
+      (c .before .before .before .before .before .field .given .1)) (c .before .before .put-phrase .ensures),
   search needs,
 )
 

@@ -1,0 +1,68 @@
+// A whole plate: the own phrases, the instruction count, the instructions and the filling.
+ghost use mathlib.Core.Path.{_≡_};
+ghost use Prim.Native.Nat.{_≤_};
+ghost use lib.ListN.{length};
+ghost use Rattle.phrases.specs.Lookup.{bookTexts, phrasesIn};
+ghost use Rattle.plate.specs.Plate.{resultOf, plateProgram};
+ghost use Rattle.fields.specs.Places.{placeAt};
+ghost use Rattle.instructions.specs.TextsAt.{Lent};
+ghost use Rattle.reader.specs.declared.Contents as contents;
+ghost use Rattle.reader.specs.declared.PlateRead.the-variants as plates;
+ghost use Rattle.reader.specs.Holding.{programRead, Stands};
+ghost use Rattle.reader.specs.Whole.{restOf};
+use crate::Contents;
+use crate::PlateRead;
+use crate::filling::is_filled;
+use crate::own::read_own;
+use crate::passing::pass_instructions;
+use causes::Cause;
+use causes::Refusal;
+use fields::Field;
+use fields::read_field;
+
+// What follows the own phrases: the instruction count, the instructions and the filling.
+fn read_rest(plate: &[u8], at: usize, book: &[u8], own: &[u8], count: usize) -> PlateRead
+    requires { ⌜ Lent (now plate) (now book) (now own) count ⌝ }
+    ensures { λ r. ⌜ programRead (now (plate .entry)) (now (book .entry)) (now (own .entry)) r ≡ resultOf (restOf (phrasesIn (now (book .entry)) (now (own .entry)) count) (placeAt (now (plate .entry)) at)) ⌝ }
+    ensures { λ r. ⌜ ((c : contents.Contents) → r ≡ plates.Holds c → Stands (now (plate .entry)) (now (book .entry)) (now (own .entry)) c) ⌝ }
+{
+    let first = read_field(plate, at, 10, 512, Cause::Unused);
+    let Field::Is(instructions, bit) = first else {
+        return PlateRead::Refused(first.refusal());
+    };
+    let second = pass_instructions(plate, bit, instructions, book, own, count);
+    let Field::Is(_, end) = second else {
+        return PlateRead::Refused(second.refusal());
+    };
+    if is_filled(plate, end) {
+        return PlateRead::Holds(Contents {
+            own: count,
+            instructions,
+            bit,
+        });
+    }
+    PlateRead::Refused(Refusal {
+        cause: Cause::Filling,
+        place: end,
+    })
+}
+
+// What a plate holds. Its own phrases are the first lines of `own` afterwards; what stands there behind them, or where the plate is
+// refused, is open: `own` is scratch of the caller, with room for 32 lines of 72 bytes.
+pub fn read_contents(plate: &[u8], book: &[u8], own: &mut [u8]) -> PlateRead
+    requires { ⌜ (length (bookTexts (now book)) ≤ 256) × (2304 ≤ length (now own)) ⌝ }
+    ensures { λ r. ⌜ programRead (now (plate .entry)) (now (book .entry)) (now (own .exit)) r ≡ plateProgram (bookTexts (now (book .entry))) (now (plate .entry)) ⌝ }
+    ensures { λ r. ⌜ ((c : contents.Contents) → r ≡ plates.Holds c → Stands (now (plate .entry)) (now (book .entry)) (now (own .exit)) c) ⌝ }
+{
+    if 2953 < plate.len() {
+        return PlateRead::Refused(Refusal {
+            cause: Cause::PlateTooLong,
+            place: 0,
+        });
+    }
+    let first = read_own(plate, book, own);
+    let Field::Is(count, at) = first else {
+        return PlateRead::Refused(first.refusal());
+    };
+    read_rest(plate, at, book, own, count)
+}

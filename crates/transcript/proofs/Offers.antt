@@ -12,7 +12,7 @@ use Rattle.transcript.specs.Offered.{offerBytes, optionsBytes}
 
 -- ---- the bytes
 
-join-commas : (t : Text) (options : List Text) → t ++ optionsBytes options ≡ join comma (t ∷ options)
+pub join-commas : (t : Text) (options : List Text) → t ++ optionsBytes options ≡ join comma (t ∷ options)
 unfolding join optionsBytes
 join-commas t [] = append-nil t
 join-commas t (o ∷ os) = ap (λ (b : List ℕ). t ++ (comma ∷ b)) (join-commas o os)

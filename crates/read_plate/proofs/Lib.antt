@@ -1,0 +1,4 @@
+pub mod LineBytes
+pub mod Pieces
+pub mod LineNeeds
+pub mod Whole

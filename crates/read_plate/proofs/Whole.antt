@@ -1,0 +1,84 @@
+-- The call: a refusal of the book or of the plate, a buffer too short, and the whole listing.
+use Prim.Native.Nat.{ℕ, _≤_, _<_}
+use native.Mathlib.Omega.{arith}
+use mathlib.Core.Path.{_≡_, refl, ap, _∙_}
+use mathlib.Core.List.{List, [], _∷_, _++_, map, append-assoc}
+use lib.ListN.{length, drop}
+use borrow.Author.Tests.{le-leb, lt-leb}
+use Rattle.causes.specs.Answers.{made, Answer, wrote, refusing, output, lent}
+use Rattle.causes.specs.declared.Cause.the-variants.{Book, TooShort}
+use Rattle.causes.specs.declared.Refusal.{Refusal}
+use Rattle.output.specs.Pour.{poured}
+use Rattle.output.proofs.Pour.{pour-fits, then}
+use Rattle.output.proofs.Poured.{ended, stored}
+use Rattle.text.specs.Parts.{join, comma, LF}
+use Rattle.phrases.specs.declared.Book.the-variants.{Holds as holdsPhrases, Bad}
+use Rattle.phrases.specs.Book.{bookPhrases}
+use Rattle.phrases.specs.Lookup.{bookTexts, bookAnswer, ownTexts, phrasesIn}
+use Rattle.phrases.proofs.Answers.{book-is}
+use Rattle.phrases.proofs.BookValid.{book-ok}
+use Rattle.plate.specs.Program.{Program}
+use Rattle.plate.specs.Plate.{plateProgram}
+use Rattle.reader.specs.declared.Contents.{Contents}
+use Rattle.reader.specs.declared.PlateRead.{PlateRead}
+use Rattle.reader.specs.declared.PlateRead.the-variants.{Holds, Refused}
+use Rattle.reader.specs.Holding.{instructionsAt, programAt, programRead}
+use Rattle.listing.specs.Listing.{instructionFields, phraseFields, programFields, linesText, listingText}
+use Rattle.listing.specs.Calls.{readListing, readPlateCall}
+
+-- ---- the own phrases' lines, and then the instructions' lines
+
+lines-append : (as′ bs : List (List (List ℕ))) → linesText as′ ++ linesText bs ≡ linesText (as′ ++ bs)
+unfolding linesText
+lines-append [] bs = refl
+lines-append (fs ∷ as′) bs =
+    append-assoc (join comma fs) (LF ∷ linesText as′) (linesText bs)
+    ∙ ap (λ (s : List ℕ). join comma fs ++ (LF ∷ s)) (lines-append as′ bs)
+
+listing-lines : (p : Program) → linesText (map phraseFields (p .own)) ++ linesText (map instructionFields (p .instructions)) ≡ listingText p
+unfolding listingText programFields
+listing-lines p = lines-append (map phraseFields (p .own)) (map instructionFields (p .instructions))
+
+pub write-listing : (plate book own : List ℕ) (c : Contents) (x : ℕ) (out mid : List ℕ) (y : ℕ × List ℕ)
+    → (x, mid) ≡ poured 0 (linesText (map phraseFields (ownTexts (c .own) own))) out
+    → y ≡ poured x (linesText (map instructionFields (instructionsAt plate (phrasesIn book own (c .own)) (c .instructions) (c .bit)))) mid
+    → length out < 9223372036854775808 → y ≡ poured 0 (listingText (programAt plate book own c)) out
+unfolding programAt
+write-listing plate book own c x out mid y e f h =
+    then 0 _ _ out x mid y e f h ∙ ap (λ (b : List ℕ). poured 0 b out) (listing-lines (programAt plate book own c))
+
+-- ---- what is written, from the pass on no buffer and from the pass on the lent one
+
+-- the first pass has found the length n
+module _ (new : List ℕ) (n : ℕ) (x b : List ℕ) (h : (n, x) ≡ poured 0 new b) where
+  pub too-short : (out : List ℕ) → length out < n → (refusing TooShort 0, out) ≡ lent (made (output new)) out
+  too-short out l = let size = ended 0 new b n x h in rw (lt-leb (length new) (length out) (omega arith))
+
+  pub whole : (m : ℕ) (o out : List ℕ) → (m, o) ≡ poured 0 new out → n ≤ length out → length out < 9223372036854775808
+      → (wrote n, o) ≡ lent (made (output new)) out
+  whole m o out k l f =
+      let size : n ≡ length new = omega (arith, ended 0 new b n x h) in
+      let bytes : o ≡ new ++ drop (length new) out = stored 0 new out m o k ∙ pour-fits new out (omega arith) in
+      rw (le-leb (length new) (length out) (omega arith)) (λ i. (wrote (size i), bytes i))
+
+-- ---- the book and the plate
+
+pub few-phrases : (book : List ℕ) (n : ℕ) → bookAnswer (bookPhrases book) ≡ holdsPhrases n → length (bookTexts book) ≤ 256
+few-phrases book n e = book-ok book (bookTexts book) (book-is book e) .1
+
+-- what the call leaves
+module _ (plate book out : List ℕ) where
+  pub call-book : (line : ℕ) → bookAnswer (bookPhrases book) ≡ Bad line → (refusing Book line, out) ≡ readPlateCall plate book out
+  unfolding readPlateCall readListing
+  call-book line e = rw (book-is book e)
+
+  module _ (n : ℕ) (e : bookAnswer (bookPhrases book) ≡ holdsPhrases n) (own : List ℕ) (f : PlateRead)
+      (k : programRead plate book own f ≡ plateProgram (bookTexts book) plate) where
+    pub call-plate : (r : Refusal) → f ≡ Refused r → (refusing (r .cause) (r .place), out) ≡ readPlateCall plate book out
+    unfolding readPlateCall readListing
+    call-plate r h = rw (book-is book e, ← k, h)
+
+    pub call-listing : (c : Contents) (y : Answer × List ℕ) → f ≡ Holds c
+        → y ≡ lent (made (output (listingText (programAt plate book own c)))) out → y ≡ readPlateCall plate book out
+    unfolding readPlateCall readListing
+    call-listing c y h w = rw (book-is book e, ← k, h) w

@@ -1,0 +1,80 @@
+// The fields of a line, each behind a comma: a text of a plate, a number from 0 on, an operator, a constant.
+ghost use mathlib.Core.Path.{_≡_};
+ghost use mathlib.Core.List.{_∷_};
+ghost use Prim.Native.Nat.{_≤_, _<_};
+ghost use lib.ListN.{length};
+ghost use Rattle.text.specs.Parts.{comma};
+ghost use Rattle.text.specs.Number.{decimalℕ, decimal};
+ghost use Rattle.output.specs.Pour.{poured};
+ghost use Rattle.instructions.specs.TextsAt.{textAt};
+ghost use Rattle.listing.specs.Listing.{operatorWord};
+use instructions::TextAt;
+use transcript::Op;
+
+// The bytes of a text of a plate: its characters, or a part of the book or of the own phrases.
+fn put_text_at<'a>(
+    plate: &[u8],
+    book: &'a [u8],
+    own: &'a [u8],
+    text: TextAt,
+    out: &mut [u8],
+    at: usize,
+) -> usize
+    requires { ⌜ length (now plate) ≤ 2953 ⌝ }
+    ensures { λ r. ⌜ (r, now (out .exit)) ≡ poured at (textAt (now (plate .entry)) (now (book .entry)) (now (own .entry)) text) (now (out .entry)) ⌝ }
+{
+    match text {
+        TextAt::Spelled { bit, size } => fields::put_characters(plate, bit, size, out, at),
+        TextAt::Phrase { own: is_own, place } => {
+            text::put(out, at, phrases::phrase_text(book, own, is_own, place))
+        }
+    }
+}
+
+// A text.
+pub fn put_text<'a>(
+    plate: &[u8],
+    book: &'a [u8],
+    own: &'a [u8],
+    text: TextAt,
+    out: &mut [u8],
+    at: usize,
+) -> usize
+    requires { ⌜ length (now plate) ≤ 2953 ⌝ }
+    ensures { λ r. ⌜ (r, now (out .exit)) ≡ poured at (comma ∷ textAt (now (plate .entry)) (now (book .entry)) (now (own .entry)) text) (now (out .entry)) ⌝ }
+{
+    let end = text::put_byte(out, at, b',');
+    put_text_at(plate, book, own, text, out, end)
+}
+
+// A register or a skip.
+pub fn put_natural(out: &mut [u8], at: usize, n: usize) -> usize
+    requires { ⌜ n < 512 ⌝ }
+    ensures { λ r. ⌜ (r, now (out .exit)) ≡ poured at (comma ∷ decimalℕ n) (now (out .entry)) ⌝ }
+{
+    let end = text::put_byte(out, at, b',');
+    text::put_natural(out, end, n as u32)
+}
+
+// OP.
+pub fn put_operator(out: &mut [u8], at: usize, op: Op) -> usize
+    ensures { λ r. ⌜ (r, now (out .exit)) ≡ poured at (comma ∷ operatorWord op) (now (out .entry)) ⌝ }
+{
+    let end = text::put_byte(out, at, b',');
+    match op {
+        Op::Eq => text::put(out, end, b"eq"),
+        Op::Ne => text::put(out, end, b"ne"),
+        Op::Lt => text::put(out, end, b"lt"),
+        Op::Le => text::put(out, end, b"le"),
+        Op::Gt => text::put(out, end, b"gt"),
+        Op::Ge => text::put(out, end, b"ge"),
+    }
+}
+
+// A constant.
+pub fn put_constant(out: &mut [u8], at: usize, constant: i32) -> usize
+    ensures { λ r. ⌜ (r, now (out .exit)) ≡ poured at (comma ∷ decimal constant) (now (out .entry)) ⌝ }
+{
+    let end = text::put_byte(out, at, b',');
+    text::put_number(out, end, constant)
+}

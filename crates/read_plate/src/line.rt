@@ -1,0 +1,150 @@
+// The lines of instructions, each written at the front of the listing's unwritten tail.
+ghost use mathlib.Core.Path.{_≡_};
+ghost use mathlib.Core.List.{[], _∷_, _++_};
+ghost use Prim.Native.Nat.{_≤_, _<_};
+ghost use lib.ListN.{length};
+ghost use Rattle.output.specs.Pour.{poured};
+ghost use Rattle.text.specs.Parts.{comma};
+ghost use Rattle.text.specs.Number.{decimalℕ};
+ghost use Rattle.phrases.specs.Lookup.{phrasesIn};
+ghost use Rattle.plate.specs.Plate as reader;
+ghost use Rattle.transcript.specs.Statement.{input, inputs};
+ghost use Rattle.plate.specs.Program.{goto, ifSkip};
+ghost use Rattle.instructions.specs.TextsAt.{textAt, Lent, instructionAt};
+ghost use Rattle.reader.specs.Holding.{There};
+ghost use Rattle.listing.specs.Listing.{statementFields, instructionFields, linesText};
+ghost use Rattle.read_plate.specs.Lines.{optionsAt, Ready};
+use crate::field::put_constant;
+use crate::field::put_natural;
+use crate::field::put_operator;
+use crate::field::put_text;
+use crate::options::put_options;
+use instructions::InstructionAt;
+use instructions::TextAt;
+use transcript::Test;
+
+// A word and a text.
+fn put_text_line<'a>(
+    plate: &[u8],
+    book: &'a [u8],
+    own: &'a [u8],
+    word: &[u8],
+    text: TextAt,
+    tail: &mut [u8],
+) -> usize
+    requires { ⌜ length (now plate) ≤ 2953 ⌝ }
+    ensures { λ r. ⌜ (r, now (tail .exit)) ≡ poured 0 (linesText ((now (word .entry) ∷ textAt (now (plate .entry)) (now (book .entry)) (now (own .entry)) text ∷ []) ∷ [])) (now (tail .entry)) ⌝ }
+{
+    let end = text::put(tail, 0, word);
+    let end = put_text(plate, book, own, text, tail, end);
+    text::put_byte(tail, end, b'\n')
+}
+
+// The front of a question's line: a word, a register and a text.
+fn put_question<'a>(
+    plate: &[u8],
+    book: &'a [u8],
+    own: &'a [u8],
+    word: &[u8],
+    register: usize,
+    text: TextAt,
+    tail: &mut [u8],
+) -> usize
+    requires { ⌜ (length (now plate) ≤ 2953) × (register < 32) ⌝ }
+    ensures { λ r. ⌜ (r, now (tail .exit)) ≡ poured 0 ((now (word .entry) ++ (comma ∷ decimalℕ register)) ++ (comma ∷ textAt (now (plate .entry)) (now (book .entry)) (now (own .entry)) text)) (now (tail .entry)) ⌝ }
+{
+    let end = text::put(tail, 0, word);
+    let end = put_natural(tail, end, register);
+    put_text(plate, book, own, text, tail, end)
+}
+
+// `input,R,TEXT`.
+fn put_input<'a>(
+    plate: &[u8],
+    book: &'a [u8],
+    own: &'a [u8],
+    register: usize,
+    text: TextAt,
+    tail: &mut [u8],
+) -> usize
+    requires { ⌜ (length (now plate) ≤ 2953) × (register < 32) ⌝ }
+    ensures { λ r. ⌜ (r, now (tail .exit)) ≡ poured 0 (linesText (statementFields (input register (textAt (now (plate .entry)) (now (book .entry)) (now (own .entry)) text)) ∷ [])) (now (tail .entry)) ⌝ }
+{
+    let end = put_question(plate, book, own, b"input", register, text, tail);
+    text::put_byte(tail, end, b'\n')
+}
+
+// `inputs,R,TEXT,OPTION,..`.
+fn put_inputs<'a>(
+    plate: &[u8],
+    book: &'a [u8],
+    own: &'a [u8],
+    count: usize,
+    register: usize,
+    text: TextAt,
+    options: usize,
+    bit: usize,
+    tail: &mut [u8],
+) -> usize
+    requires { ⌜ Lent (now plate) (now book) (now own) count × (register < 32) × There (λ j. reader.text (phrasesIn (now book) (now own) count)) (now plate) options bit (optionsAt (now plate) (phrasesIn (now book) (now own) count) options bit) ⌝ }
+    ensures { λ r. ⌜ (r, now (tail .exit)) ≡ poured 0 (linesText (statementFields (inputs register (textAt (now (plate .entry)) (now (book .entry)) (now (own .entry)) text) (optionsAt (now (plate .entry)) (phrasesIn (now (book .entry)) (now (own .entry)) count) options bit)) ∷ [])) (now (tail .entry)) ⌝ }
+{
+    let end = put_question(plate, book, own, b"inputs", register, text, tail);
+    let end = put_options(plate, book, own, count, options, bit, tail, end);
+    text::put_byte(tail, end, b'\n')
+}
+
+// `goto,SKIP`.
+fn put_goto(skip: usize, tail: &mut [u8]) -> usize
+    requires { ⌜ skip < 512 ⌝ }
+    ensures { λ r. ⌜ (r, now (tail .exit)) ≡ poured 0 (linesText (instructionFields (goto skip) ∷ [])) (now (tail .entry)) ⌝ }
+{
+    let end = text::put(tail, 0, b"goto");
+    let end = put_natural(tail, end, skip);
+    text::put_byte(tail, end, b'\n')
+}
+
+// `if,R,OP,C,SKIP`.
+fn put_if(test: Test, skip: usize, tail: &mut [u8]) -> usize
+    requires { ⌜ (test .register < 32) × (skip < 512) ⌝ }
+    ensures { λ r. ⌜ (r, now (tail .exit)) ≡ poured 0 (linesText (instructionFields (ifSkip test skip) ∷ [])) (now (tail .entry)) ⌝ }
+{
+    let register = test.register;
+    let op = test.op;
+    let constant = test.constant;
+    let end = text::put(tail, 0, b"if");
+    let end = put_natural(tail, end, register);
+    let end = put_operator(tail, end, op);
+    let end = put_constant(tail, end, constant);
+    let end = put_natural(tail, end, skip);
+    text::put_byte(tail, end, b'\n')
+}
+
+// The line of an instruction.
+pub fn put_instruction<'a>(
+    plate: &[u8],
+    book: &'a [u8],
+    own: &'a [u8],
+    count: usize,
+    i: InstructionAt,
+    tail: &mut [u8],
+) -> usize
+    requires { ⌜ Lent (now plate) (now book) (now own) count × Ready (now plate) (now book) (now own) count i ⌝ }
+    ensures { λ r. ⌜ (r, now (tail .exit)) ≡ poured 0 (linesText (instructionFields (instructionAt (now (plate .entry)) (now (book .entry)) (now (own .entry)) count i) ∷ [])) (now (tail .entry)) ⌝ }
+{
+    match i {
+        InstructionAt::Input { register, text } => {
+            put_input(plate, book, own, register, text, tail)
+        }
+        InstructionAt::Inputs {
+            register,
+            text,
+            options,
+            bit,
+        } => put_inputs(plate, book, own, count, register, text, options, bit, tail),
+        InstructionAt::Print { text } => put_text_line(plate, book, own, b"print", text, tail),
+        InstructionAt::Printex { text } => put_text_line(plate, book, own, b"printex", text, tail),
+        InstructionAt::Goto { skip } => put_goto(skip, tail),
+        InstructionAt::IfSkip { test, skip } => put_if(test, skip, tail),
+    }
+}

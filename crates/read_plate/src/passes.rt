@@ -1,0 +1,107 @@
+// The whole listing, written in two passes.
+ghost use mathlib.Core.Path.{_≡_};
+ghost use mathlib.Core.List.{[], _∷_, map};
+ghost use Rattle.causes.specs.Answers.{writtenAnswer, made, output, lent};
+ghost use Rattle.output.specs.Pour.{poured};
+ghost use Rattle.phrases.specs.Lookup.{phrasesIn};
+ghost use Rattle.plate.specs.Plate.{instruction};
+ghost use Rattle.instructions.specs.TextsAt.{Lent, instructionAt};
+ghost use Rattle.reader.specs.Holding.{There, instructionsAt, programAt, Stands};
+ghost use Rattle.listing.specs.Listing.{instructionFields, linesText, listingText};
+ghost use Rattle.read_plate.specs.Lines.{Ready};
+use crate::line::put_instruction;
+use crate::phrase_lines::put_phrases;
+use causes::Cause;
+use causes::Refusal;
+use causes::Written;
+use instructions::InstructionAt;
+use instructions::InstructionRead;
+use instructions::read_instruction;
+use reader::Contents;
+
+// The line of an instruction at a place of the listing: its tail from there on, which is empty past the buffer's end, takes it.
+fn line_at<'a>(
+    plate: &[u8],
+    book: &'a [u8],
+    own: &'a [u8],
+    count: usize,
+    i: InstructionAt,
+    out: &mut [u8],
+    at: usize,
+) -> usize
+    requires { ⌜ Lent (now plate) (now book) (now own) count × Ready (now plate) (now book) (now own) count i ⌝ }
+    ensures { λ r. ⌜ (r, now (out .exit)) ≡ poured at (linesText (instructionFields (instructionAt (now (plate .entry)) (now (book .entry)) (now (own .entry)) count i) ∷ [])) (now (out .entry)) ⌝ }
+{
+    let from = output::least(at, out.len());
+    let n = put_instruction(plate, book, own, count, i, &mut out[from..]);
+    output::sum(at, n)
+}
+
+// The lines of n instructions from a bit on. All are there, so none is refused.
+fn put_instructions<'a>(
+    plate: &[u8],
+    book: &'a [u8],
+    own: &'a [u8],
+    count: usize,
+    n: usize,
+    bit: usize,
+    out: &mut [u8],
+    at: usize,
+) -> usize
+    requires { ⌜ Lent (now plate) (now book) (now own) count × There (instruction (phrasesIn (now book) (now own) count)) (now plate) n bit (instructionsAt (now plate) (phrasesIn (now book) (now own) count) n bit) ⌝ }
+    ensures { λ r. ⌜ (r, now (out .exit)) ≡ poured at (linesText (map instructionFields (instructionsAt (now (plate .entry)) (phrasesIn (now (book .entry)) (now (own .entry)) count) n bit))) (now (out .entry)) ⌝ }
+{
+    let mut end = at;
+    let mut place = bit;
+    let mut left = n;
+    while 0 < left {
+        let read = read_instruction(plate, place, left - 1, book, own, count);
+        let InstructionRead::Is(i, next) = read else {
+            return end;
+        };
+        end = line_at(plate, book, own, count, i, out, end);
+        place = next;
+        left -= 1;
+    }
+    end
+}
+
+// The listing of a plate's contents.
+fn produce<'a>(
+    plate: &[u8],
+    book: &'a [u8],
+    own: &'a [u8],
+    contents: Contents,
+    out: &mut [u8],
+) -> usize
+    requires { ⌜ Stands (now plate) (now book) (now own) contents ⌝ }
+    ensures { λ r. ⌜ (r, now (out .exit)) ≡ poured 0 (listingText (programAt (now (plate .entry)) (now (book .entry)) (now (own .entry)) contents)) (now (out .entry)) ⌝ }
+{
+    let count = contents.own;
+    let n = contents.instructions;
+    let bit = contents.bit;
+    let end = put_phrases(book, own, count, out, 0);
+    put_instructions(plate, book, own, count, n, bit, out, end)
+}
+
+// First on no buffer, to learn the listing's length; then 11, or the listing is written.
+pub fn write<'a>(
+    plate: &[u8],
+    book: &'a [u8],
+    own: &'a [u8],
+    contents: Contents,
+    listing: &mut [u8],
+) -> Written
+    requires { ⌜ Stands (now plate) (now book) (now own) contents ⌝ }
+    ensures { λ r. ⌜ (writtenAnswer r, now (listing .exit)) ≡ lent (made (output (listingText (programAt (now (plate .entry)) (now (book .entry)) (now (own .entry)) contents)))) (now (listing .entry)) ⌝ }
+{
+    let length = produce(plate, book, own, contents, &mut []);
+    if listing.len() < length {
+        return Written::Refused(Refusal {
+            cause: Cause::TooShort,
+            place: 0,
+        });
+    }
+    produce(plate, book, own, contents, listing);
+    Written::Done(length)
+}

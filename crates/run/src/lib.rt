@@ -1,2 +1,59 @@
 // The runner: runs a plate.
 // specs/Run.antt says what the run of a plate's instructions is; specs/Call.antt what the call answers and leaves in the lent buffer.
+// The book is checked, then the whole plate is read, and a refusal leaves the buffer as it was. The run goes from instruction to
+// instruction of the plate's bits. Jumps only go forward, so to skip is to read on: it keeps the bit of the next instruction, how many
+// are left, and how many of these are passed over. It is made twice: first on no buffer, to learn the transcript's length, and then on
+// the lent one. Scratch is tested for its length and left alone.
+mod meet;
+mod passes;
+mod perform;
+mod texts;
+
+use causes::Cause;
+use causes::Ran;
+use causes::Refusal;
+use phrases::Book;
+use reader::PlateRead;
+use transcript::Performed;
+ghost use mathlib.Core.Path.{_≡_};
+ghost use lib.ListN.{length};
+ghost use Rattle.causes.specs.Answers.{ranAnswer};
+ghost use Rattle.run.specs.Call.{runCall};
+
+// What an instruction leaves: the machine, the outcome and the transcript's end, and how many instructions behind it are passed over.
+pub struct Met {
+    pub left: Performed,
+    pub over: usize,
+}
+
+// A plate is run on the answers, and its transcript written.
+pub fn run(
+    plate: &[u8],
+    book: &[u8],
+    answers: &[i32],
+    scratch: &mut [u16],
+    transcript: &mut [u8],
+) -> Ran
+    ensures { λ r. ⌜ (ranAnswer r, now (transcript .exit)) ≡ runCall (now (plate .entry)) (now (book .entry)) (now (answers .entry)) (length (now (scratch .entry))) (now (transcript .entry)) ⌝ }
+    ensures { λ r. ⌜ now (scratch .exit) ≡ now (scratch .entry) ⌝ }
+{
+    if let Book::Bad(line) = phrases::check_book(book) {
+        return Ran::Refused(Refusal {
+            cause: Cause::Book,
+            place: line,
+        });
+    }
+    let mut own = [0u8; 2304];
+    match reader::read_contents(plate, book, &mut own) {
+        PlateRead::Refused(r) => Ran::Refused(r),
+        PlateRead::Holds(c) => {
+            if scratch.len() < 512 {
+                return Ran::Refused(Refusal {
+                    cause: Cause::TooShort,
+                    place: 0,
+                });
+            }
+            passes::write(plate, book, &own, c, answers, transcript)
+        }
+    }
+}

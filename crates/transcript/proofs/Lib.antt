@@ -10,3 +10,4 @@ pub mod Offers
 pub mod Answers
 pub mod Options
 pub mod Performs
+pub mod Passes

@@ -1,6 +1,7 @@
 -- `produce` meets its contract: it is the walk from the start, over all lines.
 use native.Mathlib.Omega.{arith}
-use Rattle.walk.proofs.Whole.{fresh-steps, text-laid}
+use Rattle.transcript.proofs.Passes.{fresh-steps}
+use Rattle.walk.proofs.Whole.{text-laid}
 use borrow.Author.Needs.{needs}
 use Rattle.walk.proofs.passes.produce.Statement.{statement}
 use Rattle.walk.proofs.passes.produce.Tie as tie

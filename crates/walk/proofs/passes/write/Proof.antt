@@ -1,6 +1,6 @@
 -- `write` meets its contract: 11 where the buffer is too short, and else the whole transcript.
 use native.Mathlib.Omega.{arith}
-use Rattle.walk.proofs.Whole.{too-short, whole}
+use Rattle.transcript.proofs.Passes.{too-short, whole}
 use borrow.Author.Needs.{needs}
 use Rattle.walk.proofs.passes.write.Statement.{statement}
 use Rattle.walk.proofs.passes.write.Tie as tie

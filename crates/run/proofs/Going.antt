@@ -1,0 +1,111 @@
+-- A run over the instructions of a plate, one by one.
+use Prim.Native.Nat.{ℕ, zero, suc, _-_, _≤_, _<_}
+use mathlib.Core.Path.{_≡_, refl, sym, ap, _∙_}
+use mathlib.Core.List.{List, [], _∷_}
+use mathlib.Core.Bool.{cond}
+use lib.ListN.{length}
+use lib.IntN.{ℤ}
+use Rattle.causes.specs.declared.Refusal.{Refusal}
+use Rattle.causes.specs.declared.Outcome.{Outcome}
+use Rattle.causes.specs.declared.Outcome.the-variants.{End}
+use Rattle.phrases.specs.Lookup.{phrasesIn}
+use Rattle.transcript.specs.declared.Machine.{Machine}
+use Rattle.transcript.specs.declared.Performed.{Performed}
+use Rattle.transcript.specs.State.{State, step, start}
+use Rattle.transcript.specs.Perform.{Ending, andThen, perform, holds}
+use Rattle.transcript.specs.Machine.{machineState, endingBy, Laid, laid, performed}
+use Rattle.transcript.proofs.Natural.{Natural, then-natural, perform-natural, holds-behind}
+use Rattle.transcript.proofs.Lay.{lay-here}
+use Rattle.transcript.proofs.Follow.{lay-ended, lay-goes}
+use Rattle.plate.specs.Program.{Instruction, statement, goto, ifSkip}
+use Rattle.plate.specs.Plate as reader
+use Rattle.plate.specs.Reading.{got}
+use Rattle.fields.specs.Places.{placeAt}
+use Rattle.instructions.specs.declared.InstructionAt.{InstructionAt}
+use Rattle.instructions.specs.declared.InstructionRead.{InstructionRead}
+use Rattle.instructions.specs.declared.InstructionRead.the-variants as instructions
+use Rattle.instructions.specs.TextsAt.{instructionAt, instructionRead}
+use Rattle.reader.specs.declared.Contents.{Contents}
+use Rattle.reader.specs.Holding.{instructionsAt, programAt}
+use Rattle.run.specs.Run.{run}
+use Rattle.run.specs.Meets.{leftBy, overBy}
+use Rattle.run.specs.Accepted.{instructionsFrom, Continues}
+use Rattle.run.proofs.Nexts.{next-read, next-there, none-left}
+use Rattle.run.proofs.Meeting.{run-first}
+
+-- ---- a run only adds to the transcript
+
+pub run-natural : (xs : List Instruction) (over : ℕ) → Natural (run xs over)
+unfolding run
+run-natural [] over t s = refl
+run-natural (x ∷ xs) (suc over) t s = run-natural xs over t s
+run-natural (statement x ∷ xs) zero t s = then-natural (perform x) (run xs 0) (perform-natural x) (run-natural xs 0) t s
+run-natural (goto skip ∷ xs) zero t s = run-natural xs skip t (step s)
+run-natural (ifSkip test skip ∷ xs) zero t s = rw (holds-behind test t s) (run-natural xs (cond (holds test s) 0 skip) t (step s))
+
+-- ---- what follows an instruction
+
+module _ (answers : List ℤ) (p : Performed) (o : List ℕ) (at over : ℕ) (x : Instruction) (s : State) (out : List ℕ)
+    (h : performed answers p o ≡ laid at (leftBy over x s) out) (xs ys : List Instruction) (split : ys ≡ x ∷ xs) where
+  whole : andThen (leftBy over x s) (run xs (overBy over x s)) ≡ run ys over s
+  whole = run-first over x xs s ∙ ap (λ (is : List Instruction). run is over s) (sym split)
+
+  -- the run has ended
+  pub lay-stopped : (p .outcome ≡ End → ⊥) → performed answers p o ≡ laid at (run ys over s) out
+  lay-stopped n =
+      lay-ended answers p o at (leftBy over x s) (run xs (overBy over x s)) out h n ∙ ap (λ (e : Ending). laid at e out) whole
+
+  -- it goes on
+  pub lay-onward : (k : ℕ) → p .outcome ≡ End → k ≡ overBy over x s → length out < 9223372036854775808
+      → laid (p .end) (run xs k (machineState answers (p .machine))) o ≡ laid at (run ys over s) out
+  lay-onward k e z l =
+      ap (λ (n : ℕ). laid (p .end) (run xs n (machineState answers (p .machine))) o) z
+      ∙ lay-goes answers p o at (leftBy over x s) (run xs (overBy over x s)) out h e (run-natural xs (overBy over x s)) l
+      ∙ ap (λ (e : Ending). laid at e out) whole
+
+-- ---- the instructions, one by one
+
+module _ (plate book own : List ℕ) (count : ℕ) where
+  -- the first of them, and the others
+  pub record Following (left bit next : ℕ) (i : InstructionAt) : Type 0 where
+    pub split : instructionsFrom plate book own count left bit
+        ≡ instructionAt plate book own count i ∷ instructionsFrom plate book own count (left - 1) next
+    pub others : Continues plate book own count (left - 1) next
+
+  module _ (left bit : ℕ) (t : Continues plate book own count left bit) where
+    module _ (f : InstructionRead)
+        (e : instructionRead plate book own count f ≡ reader.instruction (phrasesIn book own count) (left - 1) (placeAt plate bit)) where
+      pub instruction-got : {i : InstructionAt} {next : ℕ} → f ≡ instructions.Is i next
+          → got (instructionAt plate book own count i) (placeAt plate next) ≡ reader.instruction (phrasesIn book own count) (left - 1) (placeAt plate bit)
+      instruction-got k = ap (instructionRead plate book own count) (sym k) ∙ e
+
+      pub following : {i : InstructionAt} {next : ℕ} → 0 < left → f ≡ instructions.Is i next → Following left bit next i
+      unfolding instructionsAt
+      following {i} {next} h k =
+          let x = next-read (reader.instruction (phrasesIn book own count)) plate left bit next t h (instruction-got k) in
+          record { split = x .split; others = x .others }
+
+      -- an instruction that is there is not refused
+      pub instruction-there : {r : Refusal} → 0 < left → f ≡ instructions.Refused r → ⊥
+      unfolding instructionsAt
+      instruction-there h k =
+          next-there (reader.instruction (phrasesIn book own count)) plate left bit t h (ap (instructionRead plate book own count) (sym k) ∙ e)
+
+    -- "the run ends at n"
+    pub lay-done : (answers : List ℤ) (p : Performed) (over : ℕ) (out : List ℕ) → p .outcome ≡ End → left ≡ 0 → p .end ≤ 18446744073709551615
+        → performed answers p out ≡ laid (p .end) (run (instructionsFrom plate book own count left bit) over (machineState answers (p .machine))) out
+    unfolding run instructionsAt
+    lay-done answers p over out e z h =
+        rw (none-left (reader.instruction (phrasesIn book own count)) plate left bit t z)
+        (lay-here answers (p .machine) (p .outcome) (p .end) out h
+        ∙ ap (λ (k : Outcome). laid (p .end) (endingBy k (machineState answers (p .machine))) out) e)
+
+-- ---- from the first instruction on
+
+pub lay-program : (plate book own : List ℕ) (c : Contents) (answers : List ℤ) (m : Machine) (at : ℕ) (out : List ℕ) (p : Laid)
+    → p ≡ laid at (run (instructionsFrom plate book own (c .own) (c .instructions) (c .bit)) 0 (machineState answers m)) out
+    → machineState answers m ≡ start answers
+    → p ≡ laid at (run (programAt plate book own c .instructions) 0 (start answers)) out
+unfolding programAt
+lay-program plate book own c answers m at out p h e =
+    h ∙ ap (λ (s : State). laid at (run (instructionsFrom plate book own (c .own) (c .instructions) (c .bit)) 0 s) out) e

@@ -1,0 +1,122 @@
+// The run in two passes.
+use crate::meet::meet;
+use causes::Cause;
+use causes::Outcome;
+use causes::Ran;
+use causes::Refusal;
+use causes::Report;
+use instructions::InstructionRead;
+use reader::Contents;
+use transcript::Performed;
+ghost use mathlib.Core.Path.{_≡_};
+ghost use Prim.Native.Nat.{_+_, _≤_};
+ghost use Rattle.causes.specs.Answers.{made, lent, ranAnswer};
+ghost use Rattle.causes.specs.declared.Outcome.the-variants.{End};
+ghost use Rattle.transcript.specs.State.{start};
+ghost use Rattle.transcript.specs.Perform.{report};
+ghost use Rattle.transcript.specs.Machine.{machineState, laid, performed};
+ghost use Rattle.reader.specs.Holding.{programAt};
+ghost use Rattle.run.specs.Run.{run};
+ghost use Rattle.run.specs.Accepted.{Accepted, instructionsFrom, Continues};
+
+// The run of n instructions from a bit on, behind what has been performed.
+fn run_from<'a>(
+    plate: &[u8],
+    book: &'a [u8],
+    own: &'a [u8],
+    c: Contents,
+    from: usize,
+    n: usize,
+    answers: &[i32],
+    out: &mut [u8],
+    begun: Performed,
+) -> Performed
+    requires { ⌜ Accepted (now plate) (now book) (now own) c × Continues (now plate) (now book) (now own) (c .own) n from × (begun .outcome ≡ End) × (begun .machine .steps + n ≤ 18446744073709551615) ⌝ }
+    ensures { λ r. ⌜ performed (now (answers .entry)) r (now (out .exit)) ≡ laid (begun .end) (run (instructionsFrom (now (plate .entry)) (now (book .entry)) (now (own .entry)) (c .own) n from) 0 (machineState (now (answers .entry)) (begun .machine))) (now (out .entry)) ⌝ }
+{
+    let count = c.own;
+    let mut p = begun;
+    let mut bit = from;
+    let mut left = n;
+    let mut over = 0;
+    while 0 < left {
+        let read = instructions::read_instruction(plate, bit, left - 1, book, own, count);
+        let InstructionRead::Is(i, next) = read else {
+            return p;
+        };
+        let m = p.machine;
+        let met = meet(plate, book, own, count, i, over, answers, out, p.end, m);
+        let q = met.left;
+        let outcome = q.outcome;
+        let Outcome::End = outcome else {
+            return q;
+        };
+        p = q;
+        bit = next;
+        left -= 1;
+        over = met.over;
+    }
+    p
+}
+
+// The run of a plate's instructions: the buffer takes as much of the transcript as it has room for.
+fn produce<'a>(
+    plate: &[u8],
+    book: &'a [u8],
+    own: &'a [u8],
+    c: Contents,
+    answers: &[i32],
+    out: &mut [u8],
+) -> Performed
+    requires { ⌜ Accepted (now plate) (now book) (now own) c ⌝ }
+    ensures { λ r. ⌜ performed (now (answers .entry)) r (now (out .exit)) ≡ laid 0 (run (programAt (now (plate .entry)) (now (book .entry)) (now (own .entry)) c .instructions) 0 (start (now (answers .entry)))) (now (out .entry)) ⌝ }
+{
+    let m = transcript::fresh();
+    let begun = Performed {
+        machine: m,
+        outcome: Outcome::End,
+        end: 0,
+    };
+    run_from(
+        plate,
+        book,
+        own,
+        c,
+        c.bit,
+        c.instructions,
+        answers,
+        out,
+        begun,
+    )
+}
+
+// The run of an accepted plate: first on no buffer, to learn the transcript's length; then 11, or the transcript is written.
+pub fn write<'a>(
+    plate: &[u8],
+    book: &'a [u8],
+    own: &'a [u8],
+    c: Contents,
+    answers: &[i32],
+    transcript: &mut [u8],
+) -> Ran
+    requires { ⌜ Accepted (now plate) (now book) (now own) c ⌝ }
+    ensures { λ r. ⌜ (ranAnswer r, now (transcript .exit)) ≡ lent (made (report (run (programAt (now (plate .entry)) (now (book .entry)) (now (own .entry)) c .instructions) 0 (start (now (answers .entry)))))) (now (transcript .entry)) ⌝ }
+{
+    let p = produce(plate, book, own, c, answers, &mut []);
+    let length = p.end;
+    if transcript.len() < length {
+        return Ran::Refused(Refusal {
+            cause: Cause::TooShort,
+            place: 0,
+        });
+    }
+    let p = produce(plate, book, own, c, answers, transcript);
+    let outcome = p.outcome;
+    let m = p.machine;
+    Ran::Done(Report {
+        length,
+        outcome,
+        taken: m.taken,
+        steps: m.steps,
+    })
+}

@@ -1,0 +1,61 @@
+// Tries the call run on the cases of its standard input: every cause at its bit, every limit of a plate and of a book, scratch and lent
+// buffers of all lengths, and random plates. Writes a line for each case; model/README.md has the format.
+
+// The call on one case, whose lent output has its content already.
+fn call(plate: &[u8], book: &[u8], answers: &[i32], scratch: &mut [u16], out: &mut [u8]) {
+    let answer = run::run(plate, book, answers, scratch, out);
+    vectors_calls::write_ran(answer, out);
+}
+
+// One case, if there is one more.
+fn case(
+    input: &mut [u8],
+    book: &mut [u8],
+    answers: &mut [i32],
+    scratch: &mut [u16],
+    out: &mut [u8],
+) -> bool {
+    let c = vectors_calls::read_case(input, book, out);
+    if !c.more {
+        return false;
+    }
+    let count = vectors_calls::read_answers(answers);
+    let numbers = vectors_calls::read_scratch(scratch);
+    let first = c.input;
+    let second = c.book;
+    let lent = c.lent;
+    call(
+        &input[..first],
+        &book[..second],
+        &answers[..count],
+        &mut scratch[..numbers],
+        &mut out[..lent],
+    );
+    true
+}
+
+// All cases, up to the end of standard input; at most a million.
+fn cases(
+    input: &mut [u8],
+    book: &mut [u8],
+    answers: &mut [i32],
+    scratch: &mut [u16],
+    out: &mut [u8],
+) {
+    let mut left: usize = 1000000;
+    while 0 < left {
+        if !case(input, book, answers, scratch, out) {
+            return;
+        }
+        left -= 1;
+    }
+}
+
+fn main() {
+    let mut input = vectors_calls::input_space();
+    let mut book = vectors_calls::book_space();
+    let mut answers = vectors_calls::answers_space();
+    let mut scratch = vectors_calls::scratch_space();
+    let mut out = vectors_calls::lent_space();
+    cases(&mut input, &mut book, &mut answers, &mut scratch, &mut out);
+}

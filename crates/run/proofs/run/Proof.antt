@@ -1,4 +1,5 @@
 use mathlib.Core.Path.{refl, sym, _∙_}
+use native.Mathlib.Omega.{arith}
 use Rattle.run.proofs.Called.{call-book, few-phrases, call-plate, accepted, call-scratch, call-run}
 use borrow.Author.Needs.{needs}
 use Rattle.run.proofs.run.Statement.{statement}
@@ -42,7 +43,7 @@ enum-known-c c = search needs
 
 -- src/lib.rt:51:17
 returns-2 : tie.Need-returns-2
-returns-2 c = (call-scratch _ _ _ _ (sym (c .before .before .before .before .before .before .before .before .before .check-book .ensures) ∙ c .before .before .before .before .before .before .before .enum-told .given .1) _ (c .before .before .before .before .before .read-contents .ensures .0) _ _ _ _ (c .before .before .c .given .1) (c .if1 .taken), refl)
+returns-2 c = (call-scratch _ _ _ _ (sym (c .before .before .before .before .before .before .before .before .before .check-book .ensures) ∙ c .before .before .before .before .before .before .before .enum-told .given .1) _ (c .before .before .before .before .before .read-contents .ensures .0) _ _ _ _ (c .before .before .c .given .1) (omega arith), refl)
 
 -- src/lib.rt:56:40
 slice-aggregate-write : tie.Need-slice-aggregate-write
@@ -62,7 +63,7 @@ same-length c = search needs
 
 -- src/lib.rt:30:1
 returns-4 : tie.Need-returns-4
-returns-4 c = (call-run _ _ _ _ (sym (c .before .before .before .before .before .before .before .before .before .before .before .before .before .before .check-book .ensures) ∙ c .before .before .before .before .before .before .before .before .before .before .before .before .enum-told .given .1) _ (c .before .before .before .before .before .before .before .before .before .before .read-contents .ensures .0) _ _ _ _ _ (c .before .before .before .before .before .before .before .c .given .1) (c .before .before .before .before .before .if1 .left) (c .before .before .write .ensures), refl)
+returns-4 c = (call-run _ _ _ _ (sym (c .before .before .before .before .before .before .before .before .before .before .before .before .before .before .check-book .ensures) ∙ c .before .before .before .before .before .before .before .before .before .before .before .before .enum-told .given .1) _ (c .before .before .before .before .before .before .before .before .before .before .read-contents .ensures .0) _ _ _ _ _ (c .before .before .before .before .before .before .before .c .given .1) (omega arith) (c .before .before .write .ensures), refl)
 
 pub run-spec : {M : Type 1} → statement M
 run-spec =

@@ -8,6 +8,7 @@ pub mod action;
 pub mod bits;
 pub mod calls;
 pub mod cases;
+pub mod examples;
 pub mod generate;
 pub mod guide;
 pub mod limits;

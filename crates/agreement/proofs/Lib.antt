@@ -1,3 +1,4 @@
 pub mod Agreement
 pub mod Valid
 pub mod Demand3
+pub mod Composed

@@ -1,10 +1,11 @@
 -- What a call that answers a length has made, and what a call that has made bytes answers.
 use Prim.Native.Nat.{ℕ, _≤_}
 use native.Mathlib.Omega.{arith}
-use mathlib.Core.Path.{_≡_, refl, ap}
+use mathlib.Core.Path.{_≡_, refl, sym, ap, _∙_}
 use mathlib.Core.List.{List, _++_}
 use mathlib.Core.Bool.{Bool, true, false, cond}
-use lib.ListN.{length, drop}
+use lib.ListN.{length, take, drop, length-append}
+use lib.Seq.{take-at}
 use lib.Dec.{leb}
 use borrow.Author.Tests.{leb-true, le-leb}
 use Rattle.causes.specs.declared.Cause.the-variants.{TooShort}
@@ -37,6 +38,18 @@ written-wrote (made bs) buffer after n e = go (leb (length bs) (length buffer)) 
         let l : bs ++ drop (length bs) buffer ≡ after = ap (λ (p : Answer × List ℕ). p .1) e in
         record { result = bs; makes = refl; size = cc; laid = cc }
     go false e = absurd (refusal-no-length (ap (λ (p : Answer × List ℕ). p .0) e))
+
+front : (result rest after : List ℕ) (n : ℕ) → n ≡ length result → after ≡ result ++ rest
+    → (take n after ≡ result) × (n ≤ length after)
+front result rest after n e f = (rw f (take-at result rest n (sym e)), rw f (omega (arith, length-append result rest)))
+
+-- the bytes that were made are the n bytes at the front of what the buffer holds afterwards
+pub written-front : (r : Result (List ℕ)) (buffer after : List ℕ) (n : ℕ) → written r buffer ≡ (wrote n, after)
+    → (r ≡ made (take n after)) × (n ≤ length after)
+written-front r buffer after n e =
+    let w = written-wrote r buffer after n e in
+    let f = front (w .result) _ after n (w .size) (w .laid) in
+    (w .makes ∙ ap made (sym (f .0)), f .1)
 
 -- where there is room, the bytes and their length
 pub written-fits : (r : Result (List ℕ)) (bs buffer : List ℕ) → r ≡ made bs → length bs ≤ length buffer

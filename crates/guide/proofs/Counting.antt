@@ -40,5 +40,8 @@ body-few (l ∷ ls) = go (inBlock (roleOf l)) (bodyLines ls) (body-few ls)
     go true ks h = omega arith
     go false ks h = omega arith
 
+pub all-lines : (g : List ℕ) → length (linesOf aGuide g) ≤ suc (length g)
+all-lines g = omega (arith, lines-few (split LF g), parts-few LF g)
+
 pub few-lines : (g : List ℕ) → length (bodyLines (linesOf aGuide g)) ≤ suc (length g)
-few-lines g = omega (arith, body-few (linesOf aGuide g), lines-few (split LF g), parts-few LF g)
+few-lines g = omega (arith, body-few (linesOf aGuide g), all-lines g)

@@ -1,14 +1,13 @@
 -- Demand 2: "With one book and buffers long enough, every accepted listing, written and read back, is the same listing; every accepted
 -- plate, read and written again, is the same plate."
 use Prim.Native.Nat.{ℕ, _≤_, _<_}
-use mathlib.Core.Path.{_≡_, sym, ap, subst, _∙_}
+use mathlib.Core.Path.{_≡_, refl, ap, subst, _∙_}
 use mathlib.Core.List.{List, _++_}
 use lib.ListN.{length, getD, take, drop}
-use lib.Seq.{take-at}
 use borrow.Author.Tests.{le-leb}
 use Rattle.causes.specs.Answers.{made, wrote}
 use Rattle.causes.proofs.Results.{made-from}
-use Rattle.causes.proofs.Lent.{written-wrote, written-fits}
+use Rattle.causes.proofs.Lent.{written, written-front, written-fits}
 use Rattle.text.specs.Text.{Text}
 use Rattle.phrases.specs.Book.{bookPhrases}
 use Rattle.phrases.proofs.BookValid.{book-ok}
@@ -78,28 +77,30 @@ listing-most book plate listing bytes e =
 
 -- ---- the calls
 
--- the n bytes that were written are the result
-result-front : (result rest after : List ℕ) (n : ℕ) → n ≡ length result → after ≡ result ++ rest → take n after ≡ result
-result-front result rest after n e f = rw f (take-at result rest n (sym e))
+-- a listing written, and the n bytes that were written read back: the listing, in any buffer
+pub listing-back : (book listing buffer after back : List ℕ) (n : ℕ) → writePlateCall listing book buffer ≡ (wrote n, after)
+    → readPlateCall (take n after) book back ≡ written (made listing) back
+unfolding writePlateCall readPlateCall
+listing-back book listing buffer after back n e =
+    rw (listing-again book listing (take n after) (written-front (writtenPlate book listing) buffer after n e .0))
 
--- a listing written, and the n bytes that were written read back into any buffer long enough
+-- a plate read, and the n bytes that were written as its listing made a plate again: the plate, in any buffer
+pub plate-back : (book plate buffer after back : List ℕ) (n : ℕ) → Bytes plate → readPlateCall plate book buffer ≡ (wrote n, after)
+    → writePlateCall (take n after) book back ≡ written (made plate) back
+unfolding writePlateCall readPlateCall
+plate-back book plate buffer after back n bytes e =
+    rw (plate-again book plate (take n after) bytes (written-front (readListing book plate) buffer after n e .0))
+
+-- in a buffer long enough, the whole listing
 pub listing-round-trip : (book listing buffer after back : List ℕ) (n : ℕ) → writePlateCall listing book buffer ≡ (wrote n, after)
     → length listing ≤ length back
     → readPlateCall (take n after) book back ≡ (wrote (length listing), listing ++ drop (length listing) back)
-unfolding writePlateCall readPlateCall
 listing-round-trip book listing buffer after back n e h =
-    let w = written-wrote (writtenPlate book listing) buffer after n e in
-    let front : take n after ≡ w .result = result-front (w .result) _ after n (w .size) (w .laid) in
-    written-fits (readListing book (take n after)) listing back
-    (ap (readListing book) front ∙ listing-again book listing (w .result) (w .makes)) h
+    listing-back book listing buffer after back n e ∙ written-fits (made listing) listing back refl h
 
--- a plate read, and the n bytes that were written as its listing made a plate again, in any buffer long enough
+-- in a buffer long enough, the whole plate
 pub plate-round-trip : (book plate buffer after back : List ℕ) (n : ℕ) → Bytes plate → readPlateCall plate book buffer ≡ (wrote n, after)
     → length plate ≤ length back
     → writePlateCall (take n after) book back ≡ (wrote (length plate), plate ++ drop (length plate) back)
-unfolding writePlateCall readPlateCall
 plate-round-trip book plate buffer after back n bytes e h =
-    let w = written-wrote (readListing book plate) buffer after n e in
-    let front : take n after ≡ w .result = result-front (w .result) _ after n (w .size) (w .laid) in
-    written-fits (writtenPlate book (take n after)) plate back
-    (ap (writtenPlate book) front ∙ plate-again book plate (w .result) bytes (w .makes)) h
+    plate-back book plate buffer after back n bytes e ∙ written-fits (made plate) plate back refl h

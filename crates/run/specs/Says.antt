@@ -18,7 +18,7 @@ use Rattle.instructions.specs.declared.InstructionAt.the-variants.{Input, Input
 use Rattle.reader.specs.Holding.{There}
 use Rattle.run.specs.Texts.{Fits}
 
--- of an instruction that is one
+-- the statement that an instruction is; nothing asks it of a goto or an if
 abbrev pub statementOf : Instruction → Statement
 statementOf (statement x) = x
 statementOf (goto k) = print []

@@ -34,6 +34,7 @@ fn put_options<'a>(
     let mut place = bit;
     let mut left = options;
     while 0 < left {
+        // Never refused: the whole plate has been read.
         let read = instructions::read_text(plate, place, book, own, count);
         let TextRead::Is(text, next) = read else {
             return end;

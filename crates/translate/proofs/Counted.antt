@@ -35,7 +35,7 @@ use Rattle.guide.proofs.Guides.{guide-holds}
 use Rattle.plate.specs.Program.{Instruction, goto}
 use Rattle.translate.specs.Translation.{translateBlock, translateGuide}
 
-abbrev size : Block → ℕ
+abbrev pub size : Block → ℕ
 size b = length (translateBlock b)
 
 -- the instructions of what follows a block
@@ -44,11 +44,11 @@ sizeBehind [] = 0
 sizeBehind (fiThen rest ∷ behind) = size rest + sizeBehind behind
 sizeBehind (elseThen e rest ∷ behind) = suc (size e + (size rest + sizeBehind behind))
 
-size-then : (test : Test) (t rest : Block) → size (ifThen test t rest) ≡ suc (size t + size rest)
+pub size-then : (test : Test) (t rest : Block) → size (ifThen test t rest) ≡ suc (size t + size rest)
 unfolding translateBlock
 size-then test t rest = ap suc (length-append (translateBlock t) (translateBlock rest))
 
-size-else : (test : Test) (t e rest : Block) → size (ifElse test t e rest) ≡ suc (size t + suc (size e + size rest))
+pub size-else : (test : Test) (t e rest : Block) → size (ifElse test t e rest) ≡ suc (size t + suc (size e + size rest))
 unfolding translateBlock
 size-else test t e rest = omega (arith, length-append (translateBlock t) over, length-append (translateBlock e) (translateBlock rest))
   where

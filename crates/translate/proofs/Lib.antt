@@ -1,3 +1,8 @@
 pub mod Skips
 pub mod Counted
 pub mod Cases
+pub mod Counting
+pub mod Coded
+pub mod LineInstructions
+pub mod LinesWritten
+pub mod Whole

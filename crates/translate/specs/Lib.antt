@@ -1,2 +1,4 @@
 pub mod Translation
 pub mod Call
+pub mod Lengths
+pub mod LineCode

@@ -1,2 +1,37 @@
 // The translator: guide to plate.
 // specs/Translation.antt says which instructions a block is, specs/Call.antt what the call answers and leaves in the lent buffer.
+// The book is checked, then the guide, and a refusal leaves the buffer as it was. The instructions are written line by line, as
+// specs/LineCode.antt says: an if and an else line count the instructions of the block behind them, by recursion into nested blocks. The
+// plate's bits are made twice: first on no buffer, to learn how many there are, and then on the part of the lent one that they take.
+
+mod instructions;
+mod lengths;
+mod passes;
+
+use causes::Cause;
+use causes::Refusal;
+use causes::Written;
+use lines::Checked;
+use lines::Form;
+use phrases::Book;
+ghost use mathlib.Core.Path.{_≡_};
+ghost use Rattle.causes.specs.Answers.{writtenAnswer};
+ghost use Rattle.translate.specs.Call.{translateCall};
+
+// A guide's plate is written into the lent buffer.
+pub fn translate(guide: &[u8], book: &[u8], plate: &mut [u8]) -> Written
+    ensures { λ r. ⌜ (writtenAnswer r, now (plate .exit)) ≡ translateCall (now (guide .entry)) (now (book .entry)) (now (plate .entry)) ⌝ }
+{
+    match phrases::check_book(book) {
+        Book::Bad(line) => Written::Refused(Refusal {
+            cause: Cause::Book,
+            place: line,
+        }),
+        Book::Holds(_) => match lines::check(Form::Guide, book, guide) {
+            Checked::Refused(r) => Written::Refused(r),
+            Checked::Fine { own, instructions } => {
+                passes::write(guide, book, own, instructions, plate)
+            }
+        },
+    }
+}

@@ -4,7 +4,7 @@
 //! - `vectors --check DIR [NAME..]` compares those files with the model's;
 //! - `vectors --table` prints the lengths and checksums of all files.
 //!
-//! A name is that of a call, or `bits`, `text` or `phrases`. Without names it takes all.
+//! A name is that of a call, or `agree`, `bits`, `text`, `phrases` or `show`. Without names it takes all.
 
 use model::vectors::{self, Set};
 use std::path::Path;

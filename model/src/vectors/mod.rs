@@ -7,6 +7,7 @@ mod call;
 mod collect;
 pub mod phrases;
 mod set;
+pub mod show;
 mod stdin;
 pub mod text;
 mod vector;

@@ -1,18 +1,24 @@
-//! The vector programs: one for each call, and one each for bits, text and phrases.
+//! The vector programs: one for each call, one for the agreement of run and walk, and one each for
+//! bits, text, phrases and show.
 
-use super::{bits, collect, phrases, text, Call, Files};
+use super::{bits, collect, phrases, show, text, Call, Files};
+use crate::refusal::Refusal;
+use crate::translate;
 
 #[derive(Clone, Copy, Debug, PartialEq, Eq)]
 pub enum Set {
     Call(Call),
+    Agree,
     Bits,
     Text,
     Phrases,
+    Show,
 }
 
 impl Set {
     pub fn all() -> Vec<Set> {
-        Call::ALL.into_iter().map(Set::Call).chain([Set::Bits, Set::Text, Set::Phrases]).collect()
+        let others = [Set::Agree, Set::Bits, Set::Text, Set::Phrases, Set::Show];
+        Call::ALL.into_iter().map(Set::Call).chain(others).collect()
     }
 
     pub fn of_name(name: &str) -> Option<Set> {
@@ -22,9 +28,11 @@ impl Set {
     pub fn name(self) -> &'static str {
         match self {
             Set::Call(call) => call.name(),
+            Set::Agree => "agree",
             Set::Bits => "bits",
             Set::Text => "text",
             Set::Phrases => "phrases",
+            Set::Show => "show",
         }
     }
 
@@ -39,6 +47,13 @@ impl Set {
                 vector.write(call, stdin);
                 vector.answer(call)
             }),
+            Set::Agree => Files::of(&collect(Call::Walk), |vector, stdin| {
+                vector.write(Call::Walk, stdin);
+                match translate(&vector.input, &vector.book) {
+                    Ok(_) => vector.answer(Call::Walk),
+                    Err(Refusal { number, place }) => format!("N,{number},{place},\n"),
+                }
+            }),
             Set::Bits => Files::of(&bits::collect(), |case, stdin| {
                 case.write(stdin);
                 case.answer()
@@ -48,6 +63,10 @@ impl Set {
                 case.answer()
             }),
             Set::Phrases => Files::of(&phrases::collect(), |case, stdin| {
+                case.write(stdin);
+                case.answer()
+            }),
+            Set::Show => Files::of(&show::collect(), |case, stdin| {
                 case.write(stdin);
                 case.answer()
             }),

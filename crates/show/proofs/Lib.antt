@@ -1,0 +1,4 @@
+pub mod RefusedLines
+pub mod Shown
+pub mod Most
+pub mod PairsWritten

@@ -1,0 +1,39 @@
+// Tries the call translate on the cases of its standard input: every cause, every limit of a guide and of a book, lent buffers of all lengths, and random guides.
+// Writes a line for each case; model/README.md has the format.
+
+// The call on one case, whose lent output has its content already.
+fn call(guide: &[u8], book: &[u8], out: &mut [u8]) {
+    let answer = translate::translate(guide, book, out);
+    vectors_calls::write_written(answer, out);
+}
+
+// One case, if there is one more.
+fn case(input: &mut [u8], book: &mut [u8], out: &mut [u8]) -> bool {
+    let c = vectors_calls::read_case(input, book, out);
+    if !c.more {
+        return false;
+    }
+    let first = c.input;
+    let second = c.book;
+    let lent = c.lent;
+    call(&input[..first], &book[..second], &mut out[..lent]);
+    true
+}
+
+// All cases, up to the end of standard input; at most a million.
+fn cases(input: &mut [u8], book: &mut [u8], out: &mut [u8]) {
+    let mut left: usize = 1000000;
+    while 0 < left {
+        if !case(input, book, out) {
+            return;
+        }
+        left -= 1;
+    }
+}
+
+fn main() {
+    let mut input = vectors_calls::input_space();
+    let mut book = vectors_calls::book_space();
+    let mut out = vectors_calls::lent_space();
+    cases(&mut input, &mut book, &mut out);
+}

@@ -1,0 +1,98 @@
+//! Writes or checks what stands beside the guides of the folder `examples`.
+//!
+//! - `example_files DIR` writes DIR/NAME.show and DIR/NAME.run for each guide;
+//! - `example_files --check DIR` compares those files with the model's.
+//!
+//! NAME.show is what plateshow prints, with an empty book. NAME.run has the runs
+//! of the guide's plate with the book `relay.book`, one for each list of answers.
+
+use model::examples::{BOOK, GUIDES};
+use model::show::plateshow;
+use std::path::Path;
+use std::process::ExitCode;
+use std::{env, fs};
+
+const USAGE: &str = "usage: example_files [--check] DIR";
+
+/// The lists of answers of each guide.
+const ANSWERS: [(&str, &[&[i32]]); 7] = [
+    ("breaker-open", &[&[0], &[1, 0], &[1, 1, 0, 1, 1], &[1, 1, 0, 0, 90], &[1, 1, 4]]),
+    (
+        "ct-open",
+        &[
+            &[1],
+            &[0, 5, 300, 310],
+            &[0, 3, 2, 1, 1],
+            &[0, 300, 305, 298, 60],
+            &[0, 300, 305, 298, 10],
+        ],
+    ),
+    ("error-codes", &[&[0, 10], &[0, 120], &[0, 50], &[1], &[3]]),
+    ("incident", &[&[110, 1, 200], &[110, 0], &[110, 1, 5000], &[90, 0], &[110]]),
+    ("reclose-lockout", &[&[0, 0], &[1, 1, 1, 0, 0], &[4, 1, 3], &[2, 1, 3, 1], &[0, 1, 3, 1]]),
+    ("sf6-low", &[&[600, 20], &[520, 20, 1], &[520, -30, 0], &[450, 10, 0], &[450, 10]]),
+    ("trip-coil", &[&[90, 120], &[145], &[110, 0], &[110, 1, 2000], &[110, 1, 200, 1]]),
+];
+
+fn main() -> ExitCode {
+    let arguments: Vec<String> = env::args().skip(1).collect();
+    let arguments: Vec<&str> = arguments.iter().map(String::as_str).collect();
+    let result = match arguments[..] {
+        ["--check", directory] => check(Path::new(directory)),
+        [directory] if !directory.starts_with('-') => write(Path::new(directory)),
+        _ => Err(USAGE.to_owned()),
+    };
+    match result {
+        Ok(()) => ExitCode::SUCCESS,
+        Err(message) => {
+            eprintln!("{message}");
+            ExitCode::FAILURE
+        }
+    }
+}
+
+/// All files, by their names.
+fn files() -> Vec<(String, Vec<u8>)> {
+    let mut files = Vec::new();
+    for ((name, guide), (answered, lists)) in GUIDES.into_iter().zip(ANSWERS) {
+        assert_eq!(name, answered, "the tables have one order");
+        files.push((format!("{name}.show"), plateshow(guide)));
+        files.push((format!("{name}.run"), runs(guide, lists).into_bytes()));
+    }
+    files
+}
+
+/// The runs of a guide's plate: the answers, the transcript, and how it ended.
+fn runs(guide: &[u8], lists: &[&[i32]]) -> String {
+    let plate = model::translate(guide, BOOK).expect("an accepted guide");
+    let mut text = String::new();
+    for answers in lists {
+        let record = model::run(&plate, BOOK, answers).expect("an accepted plate");
+        assert_eq!(model::walk(guide, BOOK, answers).as_ref(), Ok(&record));
+        let list: String = answers.iter().map(|answer| format!(",{answer}")).collect();
+        text += &format!("answers{list}\n");
+        text += &String::from_utf8_lossy(&record.transcript);
+        let (outcome, taken, steps) = (record.outcome as u32, record.taken, record.steps);
+        text += &format!("outcome,{outcome},taken,{taken},steps,{steps}\n");
+    }
+    text
+}
+
+fn write(directory: &Path) -> Result<(), String> {
+    for (name, bytes) in files() {
+        let path = directory.join(name);
+        fs::write(&path, bytes).map_err(|e| format!("{}: {e}", path.display()))?;
+    }
+    Ok(())
+}
+
+fn check(directory: &Path) -> Result<(), String> {
+    for (name, bytes) in files() {
+        let path = directory.join(name);
+        let stored = fs::read(&path).map_err(|e| format!("{}: {e}", path.display()))?;
+        if stored != bytes {
+            return Err(format!("{} is not what the model writes", path.display()));
+        }
+    }
+    Ok(())
+}

@@ -1,9 +1,12 @@
-# test: the whole verdict, from nothing. show: the worked cases of document 01, proved on the definitions.
+# test: the whole verdict, from nothing. show: the listing and the plate of a guide.
 .PHONY: test show
+
+GUIDE = examples/incident.guide
 
 test:
 	cargo test --release --offline --quiet --manifest-path model/Cargo.toml
 	rt ci
 
 show:
-	rt check cases
+	rt check plateshow
+	target/bin/plateshow < $(GUIDE)

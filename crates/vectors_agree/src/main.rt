@@ -101,13 +101,7 @@ fn case(
 }
 
 // All cases, up to the end of standard input; at most a million.
-fn cases(
-    input: &mut [u8],
-    book: &mut [u8],
-    answers: &mut [i32],
-    out: &mut [u8],
-    other: &mut [u8],
-) {
+fn cases(input: &mut [u8], book: &mut [u8], answers: &mut [i32], out: &mut [u8], other: &mut [u8]) {
     let mut left: usize = 1000000;
     while 0 < left {
         if !case(input, book, answers, out, other) {

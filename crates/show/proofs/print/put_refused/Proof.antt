@@ -36,11 +36,12 @@ same-length c = search needs
 
 returns : tie.Need-returns
 unfolding refusedLine
-returns c = let number = rw (c .before .before .before .before .before .before .before .before .before .before .before .before .before .before .before .before .before .before .before .before .before .number-of .ensures) at (c .before .before .before .before .before .before .before .before .before .before .before .before .before .before .put-natural .ensures) in
-    let one = then _ _ _ _ _ _ _ (c .before .before .before .before .before .before .before .before .before .before .before .before .before .before .before .before .before .before .put .ensures) number (omega arith) in
+returns c =
+    let one = then _ _ _ _ _ _ _ (c .before .before .before .before .before .before .before .before .before .before .before .before .before .before .before .before .before .before .put .ensures) (c .before .before .before .before .before .before .before .before .before .before .before .before .before .before .put-natural .ensures) (omega arith) in
     let two = then _ _ _ _ _ _ _ one (c .before .before .before .before .before .before .before .before .before .before .put-byte .ensures) (omega arith) in
     let three = then _ _ _ _ _ _ _ two (c .before .before .before .before .before .before .put-natural2 .ensures) (omega arith) in
-    simp append-assoc (simp append-assoc at (then _ _ _ _ _ _ _ three (c .before .before .put-byte2 .ensures) (omega arith)))
+    let line = then _ _ _ _ _ _ _ three (c .before .before .put-byte2 .ensures) (omega arith) in
+    simp append-assoc (rw (c .before .before .before .before .before .before .before .before .before .before .before .before .before .before .before .before .before .before .before .before .before .number-of .ensures) at (simp append-assoc at line))
 
 pub put-refused-spec : {M : Type 1} → statement M
 put-refused-spec =

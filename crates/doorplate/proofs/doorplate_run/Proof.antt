@@ -1,0 +1,33 @@
+-- `doorplate_run` meets its contract: the values of what the call answers, and the buffers that it leaves.
+use borrow.Author.Needs.{needs}
+use Rattle.doorplate.proofs.Values.{ran-is}
+use Rattle.doorplate.proofs.doorplate_run.Statement.{statement}
+use Rattle.doorplate.proofs.doorplate_run.Tie as tie
+use Rattle.doorplate.proofs.doorplate_run.Reads as reads
+use Rattle.doorplate.proofs.doorplate_run.Lts as lts
+use Rattle.doorplate.proofs.ran_values.Reads as ran-values-reads
+use Rattle.run.proofs.run.Reads as run-reads
+
+-- src/lib.rt:140:16
+run-requires : tie.Need-run-requires
+run-requires c κs = search needs
+
+-- src/lib.rt:140:5
+ran-values-requires : tie.Need-ran-values-requires
+ran-values-requires c κs = search needs
+
+-- src/lib.rt:129:1
+same-length : tie.Need-same-length
+same-length c = search needs
+
+-- src/lib.rt:129:1
+same-length-2 : tie.Need-same-length-2
+same-length-2 c = search needs
+
+-- src/lib.rt:129:1
+returns : tie.Need-returns
+returns c = (ran-is (c .before .before .before .before .before .run .ensures .0) (c .ran-values .ensures), c .before .before .before .before .before .run .ensures .1)
+
+pub doorplate-run-spec : {M : Type 1} → statement M
+doorplate-run-spec =
+    tie.close (tie.spec run-requires ran-values-requires same-length same-length-2 returns)

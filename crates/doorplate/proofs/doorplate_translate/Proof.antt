@@ -1,0 +1,29 @@
+-- `doorplate_translate` meets its contract: the values of what the call answers, and the buffer that it leaves.
+use borrow.Author.Needs.{needs}
+use Rattle.doorplate.proofs.Values.{written-is}
+use Rattle.doorplate.proofs.doorplate_translate.Statement.{statement}
+use Rattle.doorplate.proofs.doorplate_translate.Tie as tie
+use Rattle.doorplate.proofs.doorplate_translate.Reads as reads
+use Rattle.doorplate.proofs.doorplate_translate.Lts as lts
+use Rattle.doorplate.proofs.written_values.Reads as written-values-reads
+use Rattle.translate.proofs.translate.Reads as translate-reads
+
+-- src/lib.rt:88:20
+translate-requires : tie.Need-translate-requires
+translate-requires c κs = search needs
+
+-- src/lib.rt:88:5
+written-values-requires : tie.Need-written-values-requires
+written-values-requires c κs = search needs
+
+-- src/lib.rt:84:1
+same-length : tie.Need-same-length
+same-length c = search needs
+
+-- src/lib.rt:84:1
+returns : tie.Need-returns
+returns c = written-is (c .before .before .before .translate .ensures) (c .written-values .ensures)
+
+pub doorplate-translate-spec : {M : Type 1} → statement M
+doorplate-translate-spec =
+    tie.close (tie.spec translate-requires written-values-requires same-length returns)

@@ -1,0 +1,44 @@
+-- `ran_values` meets its contract: each arm's fields are the values of the answer that the arm knows.
+use borrow.Author.Needs.{needs}
+use Rattle.doorplate.proofs.Values.{ended, not-run}
+use Rattle.doorplate.proofs.ran_values.Statement.{statement}
+use Rattle.doorplate.proofs.ran_values.Tie as tie
+use Rattle.doorplate.proofs.ran_values.Reads as reads
+use Rattle.doorplate.proofs.ran_values.Lts as lts
+use Rattle.causes.proofs.number_of.Reads as number-of-reads
+use Rattle.causes.proofs.outcome_of.Reads as outcome-of-reads
+
+-- src/lib.rt:58:27
+enum-known-answer : tie.Need-enum-known-answer
+enum-known-answer c = search needs
+
+-- src/lib.rt:64:26
+outcome-of-requires : tie.Need-outcome-of-requires
+outcome-of-requires c κs = search needs
+
+-- src/lib.rt:69:30
+enum-known-answer-2 : tie.Need-enum-known-answer-2
+enum-known-answer-2 c = search needs
+
+-- src/lib.rt:72:25
+number-of-requires : tie.Need-number-of-requires
+number-of-requires c κs = search needs
+
+-- src/lib.rt:54:1
+returns : tie.Need-returns
+returns c = ended (c .before .before .answer .given .1) (c .outcome-of .ensures)
+
+-- src/lib.rt:54:1
+returns-2 : tie.Need-returns-2
+returns-2 c = not-run (c .before .before .answer2 .given .1) (c .number-of .ensures)
+
+pub ran-values-spec : {M : Type 1} → statement M
+ran-values-spec =
+    tie.close
+    (tie.spec
+    enum-known-answer
+    outcome-of-requires
+    enum-known-answer-2
+    number-of-requires
+    returns
+    returns-2)

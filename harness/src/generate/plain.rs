@@ -1,0 +1,28 @@
+//! Plain random bytes, of all values or of a few.
+
+use model::generate::Sample;
+use model::rng::Rng;
+
+/// What lines are made of.
+const LINE_BYTES: &[u8] = b"phrasintexeflsgo,,,,\n\n0123-";
+
+pub fn sample(rng: &mut Rng) -> Sample {
+    let input = bytes(rng, 200);
+    let book = if rng.once_in(2) { Vec::new() } else { bytes(rng, 40) };
+    Sample { input, book }
+}
+
+fn bytes(rng: &mut Rng, most: usize) -> Vec<u8> {
+    let kind = rng.below(4);
+    let most = if rng.once_in(2) { most } else { most / 8 };
+    let length = rng.between(0, most);
+    (0..length)
+        .map(|_| match kind {
+            0 => rng.next_u64() as u8,
+            1 => rng.between(32, 126) as u8,
+            2 => *rng.pick(LINE_BYTES),
+            // Few ones, so that a plate is read further.
+            _ => (rng.next_u64() & rng.next_u64() & rng.next_u64()) as u8,
+        })
+        .collect()
+}

@@ -1,0 +1,99 @@
+//! The cases of a seed reach every cause of every call and every limit; the library is right on some.
+
+use harness::fuzz::all;
+use harness::generate;
+use harness::library::Library;
+use harness::perform::{perform, Case};
+use harness::reference::Model;
+use model::vectors::Call;
+use std::collections::BTreeMap;
+
+/// Every cause of every call, all outcomes, and acceptance; no difference from the model.
+#[test]
+fn every_cause_is_reached() {
+    let report = all(&Library, 11, 40_000, 1);
+    assert_eq!(report.first, None);
+    for call in Call::ALL {
+        assert!(report.count(call, 0) > 2_000, "{}", call.name());
+        for &number in call.causes() {
+            assert!(report.count(call, number) > 0, "{} cause {number}", call.name());
+        }
+    }
+    assert!(report.agreements > 2_000);
+}
+
+/// How often each limit, and one past it, is met by accepted and refused cases.
+#[derive(Default)]
+struct Met(BTreeMap<(&'static str, usize), u64>);
+
+impl Met {
+    fn add(&mut self, what: &'static str, size: usize) {
+        *self.0.entry((what, size)).or_default() += 1;
+    }
+
+    fn case(&mut self, case: &Case) {
+        let accepted = perform(&Model, case).answer.is_accepted();
+        let lines = |bytes: &[u8]| bytes.iter().filter(|&&byte| byte == b'\n').count();
+        self.add("book", lines(&case.book));
+        match case.call {
+            Call::Translate | Call::Walk => self.guide(case, accepted),
+            Call::WritePlate => self.add("listing", case.input.len()),
+            Call::ReadPlate | Call::Run if accepted => self.add("plate", case.input.len()),
+            Call::ReadPlate | Call::Run => self.add("refused plate", case.input.len()),
+        }
+        if case.call == Call::Run {
+            self.add("scratch", case.scratch);
+        }
+    }
+
+    fn guide(&mut self, case: &Case, accepted: bool) {
+        self.add(if accepted { "guide" } else { "refused guide" }, case.input.len());
+        let [mut own, mut level, mut deepest, mut instructions] = [0; 4];
+        for line in case.input.split(|&byte| byte == b'\n') {
+            own += usize::from(line.starts_with(b"phrase,"));
+            level += usize::from(line.starts_with(b"if,"));
+            deepest = deepest.max(level);
+            level = level.saturating_sub(usize::from(line == b"fi"));
+            let counts = [&b"if,"[..], b"else", b"print", b"input"];
+            instructions += usize::from(counts.iter().any(|kind| line.starts_with(kind)));
+            let longest = line.split(|&byte| byte == b',').map(<[u8]>::len).max();
+            self.add("text", longest.unwrap_or(0));
+        }
+        self.add("own", own);
+        self.add("levels", deepest);
+        self.add(if accepted { "instructions" } else { "refused instructions" }, instructions);
+    }
+}
+
+#[test]
+fn every_limit_is_reached() {
+    let mut met = Met::default();
+    (0..60_000).map(|number| generate::case(12, number)).for_each(|case| met.case(&case));
+    let limits = [
+        ("book", 0),
+        ("book", 256),
+        ("book", 257),
+        ("guide", 16_384),
+        ("refused guide", 16_385),
+        ("listing", 327_680),
+        ("listing", 327_681),
+        ("plate", 2_953),
+        ("refused plate", 2_953),
+        ("refused plate", 2_954),
+        ("instructions", 512),
+        ("refused instructions", 513),
+        ("own", 32),
+        ("own", 33),
+        ("levels", 16),
+        ("levels", 17),
+        ("text", 64),
+        ("text", 65),
+        ("scratch", 0),
+        ("scratch", 511),
+        ("scratch", 512),
+        ("scratch", 600),
+    ];
+    for limit in limits {
+        assert!(met.0.contains_key(&limit), "{limit:?} is not reached");
+    }
+}

@@ -1,7 +1,8 @@
-//! Tries the C library of door-plate guides beside the model.
+//! Tries the C library of door-plate guides beside the model, and measures it.
 //!
 //! What a call has to answer and to leave comes from the model alone.
 
+pub mod bench;
 pub mod calls;
 pub mod compare;
 pub mod fuzz;

@@ -1,0 +1,89 @@
+//! What is measured, by size.
+
+use super::inputs::*;
+use super::{Subject, Work};
+use model::cases::records::VOLTS;
+use model::limits::{MAX_BOOK, MAX_INSTRUCTIONS};
+use model::vectors::Call;
+
+/// What the sizes are.
+pub const LEGEND: &str = "\
+small    case (b) of document 01, empty book
+middle   a guide of 2 KB, 6 own phrases, a book of 40 phrases of 23 bytes
+large    512 instructions, 192 inputs of 8 options and 320 prints, which is all that a plate holds; every text is a
+         phrase of a full book. Listing and plate: 256 phrases of 64 bytes, which differ in their last two. Guide:
+         240 such phrases, behind them 16 of one letter, which the guide uses, since longer ones do not fit a guide
+spelled  51 prints of 64 bytes and 2 inputs, none a phrase of the full book of 256 phrases: a plate of 2,953 bytes
+book     an empty guide with that full book: the check of the book alone
+lines    512 lines print,a, empty book
+plate    the plate of 2,953 bytes of spelled texts, empty book";
+
+/// A size, how it is made, and the calls that are measured on it.
+pub struct Size {
+    pub name: &'static str,
+    pub subject: fn() -> Subject,
+    pub calls: &'static [Call],
+}
+
+pub const ALL: [Size; 8] = [
+    Size { name: "small", subject: small, calls: &Call::ALL },
+    Size { name: "middle", subject: middle, calls: &Call::ALL },
+    Size { name: "large", subject: guide, calls: &[Call::Translate, Call::Walk] },
+    Size {
+        name: "large",
+        subject: listing,
+        calls: &[Call::WritePlate, Call::ReadPlate, Call::Run],
+    },
+    Size { name: "spelled", subject: spelled_with_book, calls: &Call::ALL },
+    Size { name: "book", subject: book, calls: &[Call::Translate] },
+    Size { name: "lines", subject: short, calls: &[Call::Translate, Call::WritePlate, Call::Walk] },
+    Size { name: "plate", subject: plate, calls: &[Call::WritePlate, Call::ReadPlate, Call::Run] },
+];
+
+/// The work of a call at a size.
+pub fn find(name: &str, call: &str) -> Option<Work> {
+    for size in ALL.iter().filter(|size| size.name == name) {
+        if let Some(&call) = size.calls.iter().find(|other| other.name() == call) {
+            return Some((size.subject)().work(call));
+        }
+    }
+    None
+}
+
+fn zeros() -> Vec<i32> {
+    vec![0; MAX_INSTRUCTIONS]
+}
+
+fn small() -> Subject {
+    Subject::of_guide(VOLTS.into(), Vec::new(), vec![100])
+}
+
+fn middle() -> Subject {
+    Subject::of_guide(middle_guide(), middle_book(), vec![1; 64])
+}
+
+fn guide() -> Subject {
+    Subject::of_guide(large_guide(), mixed_book(), zeros())
+}
+
+/// The listing is too long for a guide.
+fn listing() -> Subject {
+    let [guide, listing, book] = [Vec::new(), large_listing(), long_book(MAX_BOOK)];
+    Subject { guide, listing, book, answers: zeros() }
+}
+
+fn spelled_with_book() -> Subject {
+    Subject::of_guide(spelled(), long_book(MAX_BOOK), zeros())
+}
+
+fn book() -> Subject {
+    Subject::of_guide(Vec::new(), long_book(MAX_BOOK), Vec::new())
+}
+
+fn short() -> Subject {
+    Subject::of_guide(prints(MAX_INSTRUCTIONS), Vec::new(), Vec::new())
+}
+
+fn plate() -> Subject {
+    Subject::of_guide(spelled(), Vec::new(), zeros())
+}

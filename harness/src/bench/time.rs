@@ -1,0 +1,59 @@
+//! The least time of a call, of many runs.
+
+use super::{Memory, Work};
+use crate::calls::Calls;
+use crate::library::Library;
+use crate::perform::make;
+use crate::reference::Model;
+use std::hint::black_box;
+use std::time::{Duration, Instant};
+
+/// A measurement repeats the call until it takes at least this.
+const LEAST: Duration = Duration::from_millis(1);
+/// Measurements are repeated for so long, and at least so often.
+const FOR: Duration = Duration::from_millis(400);
+const OFTEN: usize = 7;
+
+/// Nanoseconds of one call.
+pub struct Times {
+    pub library: f64,
+    pub model: f64,
+}
+
+/// Measures library and model in turn, so that both meet the same disturbances.
+pub fn times(work: &Work) -> Times {
+    work.check();
+    let repeats = [&Library as &dyn Calls, &Model].map(|calls| (calls, repeats(calls, work)));
+    let mut least = [f64::INFINITY; 2];
+    let start = Instant::now();
+    let mut rounds = 0;
+    while rounds < OFTEN || start.elapsed() < FOR {
+        for ((calls, repeats), least) in repeats.iter().zip(&mut least) {
+            let nanoseconds = measure(*calls, work, *repeats).as_secs_f64() * 1e9;
+            *least = least.min(nanoseconds / *repeats as f64);
+        }
+        rounds += 1;
+    }
+    let [library, model] = least;
+    Times { library, model }
+}
+
+/// How many calls take more than `LEAST`.
+fn repeats(calls: &dyn Calls, work: &Work) -> u32 {
+    let mut repeats = 1;
+    while measure(calls, work, repeats) < LEAST {
+        repeats *= 2;
+    }
+    repeats
+}
+
+fn measure(calls: &dyn Calls, work: &Work, repeats: u32) -> Duration {
+    let mut memory = Memory::default();
+    let start = Instant::now();
+    for _ in 0..repeats {
+        let lent = black_box(work).lent(&mut memory);
+        black_box(make(calls, work.call, lent));
+    }
+    black_box(&memory);
+    start.elapsed()
+}

@@ -1,12 +1,47 @@
 # test: the whole verdict, from nothing. show: the listing and the plate of a guide.
-.PHONY: test show
+# library: the C archive and its header, in target/library. example-c: a C program that links it, on the guides of examples/.
+# fuzz: the archive beside the model on N cases of a seed. bench: time, stack and code beside the model. count: instructions, by callgrind.
+.PHONY: test show library example-c fuzz bench count harness-test
 
 GUIDE = examples/incident.guide
+N = 1000000
+SEED = 1
+
+LIBRARY = target/library
+ARCHIVE = $(LIBRARY)/libdoorplate.a
+HARNESS = --release --offline --quiet --manifest-path harness/Cargo.toml
+C_FLAGS = -std=c99 -O2 -Wall -Wextra -Wpedantic -Werror
 
 test:
 	cargo test --release --offline --quiet --manifest-path model/Cargo.toml
-	rt ci
+	harness/verdict.sh
 
 show:
 	rt check plateshow
 	target/bin/plateshow < $(GUIDE)
+
+library:
+	rt check doorplate
+	rt staticlib doorplate
+	mkdir -p $(LIBRARY)
+	cp target/staticlib/libdoorplate.a include/doorplate.h $(LIBRARY)
+
+$(ARCHIVE): crates.txt include/doorplate.h $(wildcard crates/*/src/*.rt)
+	$(MAKE) library
+
+example-c: $(ARCHIVE)
+	$(CC) $(C_FLAGS) -I $(LIBRARY) examples/c/runguide.c $(ARCHIVE) -o $(LIBRARY)/runguide
+	examples/c/check.sh $(LIBRARY)/runguide
+
+fuzz: $(ARCHIVE)
+	cargo run $(HARNESS) --bin fuzz -- $(N) $(SEED)
+
+bench: $(ARCHIVE)
+	cargo run $(HARNESS) --bin bench
+	size -t $(ARCHIVE)
+
+count: $(ARCHIVE)
+	cargo run $(HARNESS) --bin bench -- --count
+
+harness-test: $(ARCHIVE)
+	cargo test $(HARNESS)

@@ -1,7 +1,8 @@
 # test: the whole verdict, from nothing. show: the listing and the plate of a guide.
 # library: the C archive and its header, in target/library. example-c: a C program that links it, on the guides of examples/.
 # fuzz: the archive beside the model on N cases of a seed. bench: time, stack and code beside the model. count: instructions, by callgrind.
-.PHONY: test show library example-c fuzz bench count harness-test
+# tools: the four tools, in target/bin. tools-test: their stored runs.
+.PHONY: test show library example-c fuzz bench count harness-test tools tools-test
 
 GUIDE = examples/incident.guide
 N = 1000000
@@ -19,6 +20,12 @@ test:
 show:
 	rt check plateshow
 	target/bin/plateshow < $(GUIDE)
+
+tools:
+	rt check guidewalk platerun platelist listplate
+
+tools-test: tools
+	sh tests/tools.sh
 
 library:
 	rt check doorplate

@@ -1,5 +1,6 @@
 #!/bin/sh
-# What make test runs behind the model's tests: rt ci; then, where it passed, the archive beside the model and the C example.
+# What make test runs behind the model's tests: rt ci; then, where it passed, the archive beside the model, the C example
+# and the stored runs of the tools.
 # The last line is rt ci's own tally, or says what failed.
 set -u
 cd "$(dirname "$0")/.." || exit 2
@@ -24,4 +25,5 @@ step library
 step fuzz N=100000
 step harness-test
 step example-c
+step tools-test
 echo "$tally"

@@ -50,7 +50,7 @@ three-parts : (h t l v : ℕ) → bitsOf (h + t + l) v ≡ bitsOf h (v / 2 ^ l /
 three-parts h t l v = rw (bits-split (h + t) l v, bits-split h t (v / 2 ^ l), append-assoc) refl
 
 -- the t bits in the middle, as a number
-field-value : (h t l v : ℕ) → valueOf (take t (drop h (bitsOf (h + t + l) v))) ≡ v / 2 ^ l % 2 ^ t
+pub field-value : (h t l v : ℕ) → valueOf (take t (drop h (bitsOf (h + t + l) v))) ≡ v / 2 ^ l % 2 ^ t
 field-value h t l v =
     let top = bitsOf h (v / 2 ^ l / 2 ^ t) in
     let mid = bitsOf t (v / 2 ^ l) in

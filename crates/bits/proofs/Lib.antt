@@ -2,5 +2,6 @@ pub mod Numbers
 pub mod Bytes
 pub mod Fields
 pub mod Turns
+pub mod Words
 pub mod Reading
 pub mod Writing

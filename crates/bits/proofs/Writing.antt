@@ -8,7 +8,7 @@ use native.Mathlib.Omega.{arith}
 use lib.ListN.{length, drop, getD, replicate, length-drop}
 use lib.Seq.{getD-drop}
 use Rattle.output.specs.Pour.{upTo, pour, poured}
-use Rattle.output.proofs.Pour.{pour-length, pour-fits}
+use Rattle.output.proofs.Pour.{pour-length, pour-past, pour-fits}
 use Rattle.output.proofs.Parts.{pour-room}
 use Rattle.output.proofs.Poured.{ended, then-counted}
 use Rattle.bits.specs.Bits.{bitsOf, bytesBits, filled, pack}
@@ -16,19 +16,27 @@ use Rattle.bits.proofs.Numbers.{length-bitsOf}
 use Rattle.bits.proofs.Bytes.{length-bytesBits, length-pack, filled-whole, drop-bytes, bytes-append, bytes-of-bits}
 use Rattle.bits.proofs.Fields.{first-bits}
 
--- to write the bits that have room is to write them all
-pub room-written : (old new : List ℕ) (at width value count power end : ℕ)
-    → bytesBits new ≡ pour at (bitsOf count (value / power)) (bytesBits old) → power ≡ 2 ^ (width - count)
-    → count ≡ min width (length old * 8 - at) → end ≡ upTo (at + width)
-    → (end, bytesBits new) ≡ poured at (bitsOf width value) (bytesBits old)
-unfolding poured
-room-written old new at width value count power end e ep ec ee =
-    let bits = bitsOf width value in
-    let long = length-bitsOf width value in
-    let room = pour-room at count bits (bytesBits old) (omega (arith, length-bytesBits old)) in
-    let counted : end ≡ upTo (at + length bits) = omega arith in
-    let stored : bytesBits new ≡ pour at bits (bytesBits old) = rw ep at e ∙ rw (first-bits width count value (omega arith)) at room in
-    λ i. (counted i, stored i)
+module _ (old new : List ℕ) (at width value : ℕ) where
+  -- to write the bits that have room is to write them all
+  pub room-written : (count power : ℕ) → bytesBits new ≡ pour at (bitsOf count (value / power)) (bytesBits old) → power ≡ 2 ^ (width - count)
+      → count ≡ min width (length old * 8 - at) → bytesBits new ≡ pour at (bitsOf width value) (bytesBits old)
+  room-written count power e ep ec =
+      let bits = bitsOf width value in
+      let long = length-bitsOf width value in
+      let room = pour-room at count bits (bytesBits old) (omega (arith, length-bytesBits old)) in
+      rw ep at e ∙ rw (first-bits width count value (omega arith)) at room
+
+  -- with the place behind them
+  pub all-written : (end : ℕ) → bytesBits new ≡ pour at (bitsOf width value) (bytesBits old) → end ≡ upTo (at + width)
+      → (end, bytesBits new) ≡ poured at (bitsOf width value) (bytesBits old)
+  unfolding poured
+  all-written end e ee =
+      let counted : end ≡ upTo (at + length (bitsOf width value)) = omega (arith, length-bitsOf width value) in
+      λ i. (counted i, e i)
+
+-- behind the end
+pub none-written : (old : List ℕ) (at : ℕ) (bits : List Bool) → length old ≤ at / 8 → bytesBits old ≡ pour at bits (bytesBits old)
+none-written old at bits h = sym (pour-past at bits (bytesBits old) (omega (arith, length-bytesBits old)))
 
 -- where a number ends
 pub bits-ended : (at w v : ℕ) (old : List Bool) (x : ℕ) (last : List Bool) → (x, last) ≡ poured at (bitsOf w v) old → x ≡ upTo (at + w)

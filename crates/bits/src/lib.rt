@@ -3,7 +3,7 @@
 // returns the place behind the bits, with room or without: a first pass over no buffer at all counts the bits of the whole.
 // specs/Bits.antt says what the bits of numbers and of bytes are, and how they are filled up to whole bytes.
 ghost use mathlib.Core.Path.{_≡_};
-ghost use Prim.Native.Nat.{_+_, _-_, _*_, _^_, _≤_, _<_, min};
+ghost use Prim.Native.Nat.{_+_, _-_, _*_, _/_, _%_, _^_, _≤_, _<_, min};
 ghost use lib.ListN.{length, take, drop};
 ghost use Rattle.output.specs.Pour.{pour, poured};
 ghost use Rattle.bits.specs.Bits.{bitsOf, valueOf, bytesBits};
@@ -50,8 +50,34 @@ fn field(byte: u8, bit: usize, size: usize) -> usize
     byte as usize / two_to(8 - bit - size) % two_to(size)
 }
 
-// The number that `width` bits of the bytes are, from the bit `at` on.
+// The number that four bytes are, from a byte on.
+fn word(bytes: &[u8], index: usize) -> usize
+    requires { ⌜ index + 3 < length (now bytes) ⌝ }
+    ensures { λ r. ⌜ r ≡ valueOf (take 32 (drop (index * 8) (bytesBits (now (bytes .entry))))) ⌝ }
+{
+    bytes[index] as usize * 16777216
+        + bytes[index + 1] as usize * 65536
+        + bytes[index + 2] as usize * 256
+        + bytes[index + 3] as usize
+}
+
+// The number that `width` bits of the bytes are, from the bit `at` on. Up to 25 bits lie in four bytes, which are read as one number.
 pub fn read_number(bytes: &[u8], at: usize, width: usize) -> Number
+    requires { ⌜ width ≤ 32 ⌝ }
+    ensures { λ r. ⌜ r ≡ numberIn width (drop at (bytesBits (now (bytes .entry)))) ⌝ }
+{
+    let index = at / 8;
+    if width <= 25 {
+        if index + 3 < bytes.len() {
+            let unit = two_to(32 - at % 8 - width);
+            return Number::Is((word(bytes, index) / unit % two_to(width)) as u32);
+        }
+    }
+    read_bytes(bytes, at, width)
+}
+
+// The same, byte by byte: a number of more bits, or at the end of the bytes.
+fn read_bytes(bytes: &[u8], at: usize, width: usize) -> Number
     requires { ⌜ width ≤ 32 ⌝ }
     ensures { λ r. ⌜ r ≡ numberIn width (drop at (bytesBits (now (bytes .entry)))) ⌝ }
 {
@@ -101,12 +127,50 @@ fn store(out: &mut [u8], at: usize, width: usize, value: usize)
     }
 }
 
+// The lowest `width` bits of a number, stored from the bit `at` on as far as the buffer goes.
+fn put_room(out: &mut [u8], at: usize, width: usize, value: usize)
+    requires { ⌜ width ≤ 32 ⌝ }
+    ensures { λ _. ⌜ bytesBits (now (out .exit)) ≡ pour at (bitsOf width value) (bytesBits (now (out .entry))) ⌝ }
+{
+    let count = room(out.len(), at, width);
+    store(out, at, count, value / two_to(width - count));
+}
+
+// The same, where the first byte is there and the bits go on behind it: most end in the second.
+fn put_bytes(out: &mut [u8], at: usize, width: usize, value: usize)
+    requires { ⌜ (width ≤ 32) × (at / 8 < length (now out)) × (8 < at % 8 + width) ⌝ }
+    ensures { λ _. ⌜ bytesBits (now (out .exit)) ≡ pour at (bitsOf width value) (bytesBits (now (out .entry))) ⌝ }
+{
+    let index = at / 8;
+    let first = 8 - at % 8;
+    let second = width - first;
+    if second <= 8 {
+        if index + 1 < out.len() {
+            out[index] = with_field(out[index], 8 - first, first, value / two_to(second));
+            out[index + 1] = with_field(out[index + 1], 0, second, value);
+            return;
+        }
+        put_room(out, at, width, value);
+        return;
+    }
+    put_room(out, at, width, value);
+}
+
 // The lowest `width` bits of a number, stored from the bit `at` on as far as the buffer goes, and the place behind them.
 pub fn put_bits(out: &mut [u8], at: usize, width: usize, value: usize) -> usize
     requires { ⌜ width ≤ 32 ⌝ }
     ensures { λ r. ⌜ (r, bytesBits (now (out .exit))) ≡ poured at (bitsOf width value) (bytesBits (now (out .entry))) ⌝ }
 {
-    let count = room(out.len(), at, width);
-    store(out, at, count, value / two_to(width - count));
-    output::sum(at, width)
+    let end = output::sum(at, width);
+    let index = at / 8;
+    if out.len() <= index {
+        return end;
+    }
+    let bit = at % 8;
+    if bit + width <= 8 {
+        out[index] = with_field(out[index], bit, width, value);
+    } else {
+        put_bytes(out, at, width, value);
+    }
+    end
 }

@@ -74,6 +74,16 @@ pub fn read_size(plate: &[u8], at: usize) -> Field
 fn character_at(plate: &[u8], bit: usize) -> u8
     ensures { λ r. ⌜ r ≡ valueOf (take 7 (drop bit (bytesBits (now (plate .entry))))) ⌝ }
 {
+    if let Number::Is(value) = bits::read_number(plate, bit, 7) {
+        return value as u8;
+    }
+    last_bits(plate, bit)
+}
+
+// The same, with as many bits as there are.
+fn last_bits(plate: &[u8], bit: usize) -> u8
+    ensures { λ r. ⌜ r ≡ valueOf (take 7 (drop bit (bytesBits (now (plate .entry))))) ⌝ }
+{
     let mut width = 7;
     while 0 < width {
         if let Number::Is(value) = bits::read_number(plate, bit, width) {
@@ -89,6 +99,9 @@ pub fn put_characters(plate: &[u8], bit: usize, size: usize, out: &mut [u8], at:
     requires { ⌜ length (now plate) ≤ 2953 ⌝ }
     ensures { λ r. ⌜ (r, now (out .exit)) ≡ poured at (charactersIn size (drop bit (bytesBits (now (plate .entry))))) (now (out .entry)) ⌝ }
 {
+    if out.len() <= at {
+        return output::sum(at, size);
+    }
     let mut end = at;
     let mut place = bit;
     let mut i = 0;

@@ -13,6 +13,7 @@ use Rattle.text.specs.Text.{Text}
 use Rattle.phrases.specs.Phrases.{width}
 use Rattle.phrases.specs.Lookup.{bookTexts, ownTexts, phraseIn}
 use Rattle.phrases.proofs.Width.{width-least}
+use Rattle.phrases.proofs.Entries.{indexed-count}
 use Rattle.phrases.proofs.Texts.{phrase-in-own, phrase-in-book}
 use Rattle.fields.specs.declared.Field.{Field}
 use Rattle.fields.specs.declared.Field.the-variants.{Is, Refused}
@@ -20,9 +21,14 @@ use Rattle.instructions.specs.declared.TextRead.{TextRead}
 use Rattle.plate.specs.Reading.{Place, got, Reader, number, judged, return, _>>=_}
 use Rattle.plate.specs.Plate.{phraseAt, phraseBy, phrase}
 use Rattle.fields.specs.Places.{placeAt, fieldRead}
-use Rattle.instructions.specs.TextsAt.{textAt, textsRead, phraseOf}
+use Rattle.instructions.specs.TextsAt.{textAt, textsRead, phraseOf, Lent}
 use Rattle.plate.proofs.Readers.{gives-number, gives-judged}
 use Rattle.fields.proofs.Onward.{then-got, then-stopped, judged-alike, got-good}
+
+-- ---- the number of the book's phrases
+
+pub book-count : {plate index book own : List ℕ} {count : ℕ} → Lent plate index book own count → length index ≡ length (bookTexts book)
+book-count {plate} {index} {book} l = sym (indexed-count index book (l .indexed))
 
 -- ---- the place
 

@@ -10,7 +10,8 @@ use Rattle.causes.specs.declared.Refusal.{Refusal}
 use Rattle.causes.specs.declared.Cause.the-variants.{PlateEnds}
 use Rattle.bits.specs.Bits.{bytesBits}
 use Rattle.text.specs.Text.{Text}
-use Rattle.phrases.specs.Lookup.{phraseIn, bookTexts, ownTexts, phrasesIn}
+use Rattle.phrases.specs.Lookup.{phraseIn, ownTexts, phrasesIn}
+use Rattle.phrases.specs.Index.{Indexed}
 use Rattle.plate.specs.Program.{Instruction, statement, goto, ifSkip}
 use Rattle.plate.specs.Reading.{Read, got, stopped, many}
 use Rattle.plate.specs.Plate as reader
@@ -46,10 +47,10 @@ abbrev pub phraseOf : field.Field → Bool → textRead.TextRead
 phraseOf (fields.Is i next) isOwn = texts.Is (Phrase isOwn i) next
 phraseOf (fields.Refused r) isOwn = texts.Refused r
 
--- what the readers of texts ask: a plate of at most 2,953 bytes, a book of at most 256 phrases, at most 32 own phrases, all there
-pub record Lent (plate book own : List ℕ) (count : ℕ) : Type 0 where
+-- what the readers of texts ask: a plate of at most 2,953 bytes, the index of the book, at most 32 own phrases, all there
+pub record Lent (plate index book own : List ℕ) (count : ℕ) : Type 0 where
   pub short : length plate ≤ 2953
-  pub phrases : length (bookTexts book) ≤ 256
+  pub indexed : Indexed index book
   pub few : count ≤ 32
   pub whole : length (ownTexts count own) ≡ count
 

@@ -21,15 +21,22 @@ use fields::read_skip;
 use fields::read_test;
 
 // input: register, text.
-fn read_input(plate: &[u8], at: usize, book: &[u8], own: &[u8], count: usize) -> InstructionRead
-    requires { ⌜ Lent (now plate) (now book) (now own) count ⌝ }
+fn read_input(
+    plate: &[u8],
+    at: usize,
+    index: &[u32],
+    book: &[u8],
+    own: &[u8],
+    count: usize,
+) -> InstructionRead
+    requires { ⌜ Lent (now plate) (now index) (now book) (now own) count ⌝ }
     ensures { λ r. ⌜ instructionRead (now (plate .entry)) (now (book .entry)) (now (own .entry)) count r ≡ fieldsBy (phrasesIn (now (book .entry)) (now (own .entry)) count) 0 0 (placeAt (now (plate .entry)) at) ⌝ }
 {
     let first = read_plain(plate, at, 5);
     let Field::Is(register, text_at) = first else {
         return InstructionRead::Refused(first.refusal());
     };
-    let second = read_text(plate, text_at, book, own, count);
+    let second = read_text(plate, text_at, index, book, own, count);
     let TextRead::Is(text, next) = second else {
         return InstructionRead::Refused(second.refusal());
     };
@@ -37,15 +44,22 @@ fn read_input(plate: &[u8], at: usize, book: &[u8], own: &[u8], count: usize) ->
 }
 
 // inputs: register, text, options less two, and as many texts.
-fn read_inputs(plate: &[u8], at: usize, book: &[u8], own: &[u8], count: usize) -> InstructionRead
-    requires { ⌜ Lent (now plate) (now book) (now own) count ⌝ }
+fn read_inputs(
+    plate: &[u8],
+    at: usize,
+    index: &[u32],
+    book: &[u8],
+    own: &[u8],
+    count: usize,
+) -> InstructionRead
+    requires { ⌜ Lent (now plate) (now index) (now book) (now own) count ⌝ }
     ensures { λ r. ⌜ instructionRead (now (plate .entry)) (now (book .entry)) (now (own .entry)) count r ≡ fieldsBy (phrasesIn (now (book .entry)) (now (own .entry)) count) 0 1 (placeAt (now (plate .entry)) at) ⌝ }
 {
     let first = read_plain(plate, at, 5);
     let Field::Is(register, text_at) = first else {
         return InstructionRead::Refused(first.refusal());
     };
-    let second = read_text(plate, text_at, book, own, count);
+    let second = read_text(plate, text_at, index, book, own, count);
     let TextRead::Is(text, number_at) = second else {
         return InstructionRead::Refused(second.refusal());
     };
@@ -54,7 +68,7 @@ fn read_inputs(plate: &[u8], at: usize, book: &[u8], own: &[u8], count: usize) -
         return InstructionRead::Refused(third.refusal());
     };
     let options = less + 2;
-    let last = pass_texts(plate, bit, options, book, own, count);
+    let last = pass_texts(plate, bit, options, index, book, own, count);
     let Field::Is(_, next) = last else {
         return InstructionRead::Refused(last.refusal());
     };
@@ -70,11 +84,18 @@ fn read_inputs(plate: &[u8], at: usize, book: &[u8], own: &[u8], count: usize) -
 }
 
 // print: text.
-fn read_print(plate: &[u8], at: usize, book: &[u8], own: &[u8], count: usize) -> InstructionRead
-    requires { ⌜ Lent (now plate) (now book) (now own) count ⌝ }
+fn read_print(
+    plate: &[u8],
+    at: usize,
+    index: &[u32],
+    book: &[u8],
+    own: &[u8],
+    count: usize,
+) -> InstructionRead
+    requires { ⌜ Lent (now plate) (now index) (now book) (now own) count ⌝ }
     ensures { λ r. ⌜ instructionRead (now (plate .entry)) (now (book .entry)) (now (own .entry)) count r ≡ fieldsBy (phrasesIn (now (book .entry)) (now (own .entry)) count) 0 2 (placeAt (now (plate .entry)) at) ⌝ }
 {
-    let first = read_text(plate, at, book, own, count);
+    let first = read_text(plate, at, index, book, own, count);
     let TextRead::Is(text, next) = first else {
         return InstructionRead::Refused(first.refusal());
     };
@@ -82,11 +103,18 @@ fn read_print(plate: &[u8], at: usize, book: &[u8], own: &[u8], count: usize) ->
 }
 
 // printex: text.
-fn read_printex(plate: &[u8], at: usize, book: &[u8], own: &[u8], count: usize) -> InstructionRead
-    requires { ⌜ Lent (now plate) (now book) (now own) count ⌝ }
+fn read_printex(
+    plate: &[u8],
+    at: usize,
+    index: &[u32],
+    book: &[u8],
+    own: &[u8],
+    count: usize,
+) -> InstructionRead
+    requires { ⌜ Lent (now plate) (now index) (now book) (now own) count ⌝ }
     ensures { λ r. ⌜ instructionRead (now (plate .entry)) (now (book .entry)) (now (own .entry)) count r ≡ fieldsBy (phrasesIn (now (book .entry)) (now (own .entry)) count) 0 3 (placeAt (now (plate .entry)) at) ⌝ }
 {
-    let first = read_text(plate, at, book, own, count);
+    let first = read_text(plate, at, index, book, own, count);
     let TextRead::Is(text, next) = first else {
         return InstructionRead::Refused(first.refusal());
     };
@@ -126,11 +154,12 @@ pub fn read_instruction(
     plate: &[u8],
     at: usize,
     behind: usize,
+    index: &[u32],
     book: &[u8],
     own: &[u8],
     count: usize,
 ) -> InstructionRead
-    requires { ⌜ Lent (now plate) (now book) (now own) count ⌝ }
+    requires { ⌜ Lent (now plate) (now index) (now book) (now own) count ⌝ }
     ensures { λ r. ⌜ instructionRead (now (plate .entry)) (now (book .entry)) (now (own .entry)) count r ≡ instruction (phrasesIn (now (book .entry)) (now (own .entry)) count) behind (placeAt (now (plate .entry)) at) ⌝ }
 {
     let field = read_field(plate, at, 3, 5, Cause::Unused);
@@ -138,10 +167,10 @@ pub fn read_instruction(
         return InstructionRead::Refused(field.refusal());
     };
     match code {
-        0 => read_input(plate, next, book, own, count),
-        1 => read_inputs(plate, next, book, own, count),
-        2 => read_print(plate, next, book, own, count),
-        3 => read_printex(plate, next, book, own, count),
+        0 => read_input(plate, next, index, book, own, count),
+        1 => read_inputs(plate, next, index, book, own, count),
+        2 => read_print(plate, next, index, book, own, count),
+        3 => read_printex(plate, next, index, book, own, count),
         4 => read_goto(plate, next, behind),
         _ => read_if(plate, next, behind),
     }

@@ -1,7 +1,7 @@
 // The texts and instructions of a plate, read at a bit. The one reader of instructions, for the run and for the converter.
 // Every function takes any bits and reads from any bit on. Its contract says that its answer stands, by a map of specs/TextsAt.antt, for
 // what a reader of crate plate's specs/Plate.antt finds there.
-// Asked of a caller (`Lent`): a plate of at most 2,953 bytes, a book of at most 256 phrases, and own phrases that are there.
+// Asked of a caller (`Lent`): a plate of at most 2,953 bytes, the index of the book, and own phrases that are there.
 // A text is answered by its place, never copied: characters from a bit on, or a phrase of the book or of the own ones.
 mod instruction_at;
 mod phrase_place;

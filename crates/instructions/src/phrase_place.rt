@@ -36,11 +36,18 @@ fn phrase_of(field: Field, own: bool) -> TextRead
 }
 
 // A phrase: one bit for book or own, where both have phrases, and its place.
-pub fn read_phrase(plate: &[u8], at: usize, book: &[u8], own: &[u8], count: usize) -> TextRead
-    requires { ⌜ Lent (now plate) (now book) (now own) count × (0 < length (bookTexts (now book)) + count) ⌝ }
+pub fn read_phrase(
+    plate: &[u8],
+    at: usize,
+    index: &[u32],
+    book: &[u8],
+    own: &[u8],
+    count: usize,
+) -> TextRead
+    requires { ⌜ Lent (now plate) (now index) (now book) (now own) count × (0 < length (now index) + count) ⌝ }
     ensures { λ r. ⌜ textsRead (now (plate .entry)) (now (book .entry)) (now (own .entry)) r ≡ phrase (bookTexts (now (book .entry))) (ownTexts count (now (own .entry))) (placeAt (now (plate .entry)) at) ⌝ }
 {
-    let texts = phrases::count_texts(book);
+    let texts = index.len();
     if texts == 0 {
         return phrase_of(read_place(plate, at, count), true);
     }

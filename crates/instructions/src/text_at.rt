@@ -47,18 +47,25 @@ fn read_code(plate: &[u8], at: usize, n: usize) -> Field
 }
 
 // A text.
-pub fn read_text(plate: &[u8], at: usize, book: &[u8], own: &[u8], count: usize) -> TextRead
-    requires { ⌜ Lent (now plate) (now book) (now own) count ⌝ }
+pub fn read_text(
+    plate: &[u8],
+    at: usize,
+    index: &[u32],
+    book: &[u8],
+    own: &[u8],
+    count: usize,
+) -> TextRead
+    requires { ⌜ Lent (now plate) (now index) (now book) (now own) count ⌝ }
     ensures { λ r. ⌜ textsRead (now (plate .entry)) (now (book .entry)) (now (own .entry)) r ≡ reader.text (phrasesIn (now (book .entry)) (now (own .entry)) count) (placeAt (now (plate .entry)) at) ⌝ }
 {
-    let field = read_code(plate, at, phrases::count_texts(book) + count);
+    let field = read_code(plate, at, index.len() + count);
     let Field::Is(code, bit) = field else {
         return TextRead::Refused(field.refusal());
     };
     if code != 0 {
-        return read_phrase(plate, bit, book, own, count);
+        return read_phrase(plate, bit, index, book, own, count);
     }
-    let spelled = read_spelled(plate, bit, book, own, count);
+    let spelled = read_spelled(plate, bit, index, book, own, count);
     let Field::Is(size, next) = spelled else {
         return TextRead::Refused(spelled.refusal());
     };
@@ -66,14 +73,22 @@ pub fn read_text(plate: &[u8], at: usize, book: &[u8], own: &[u8], count: usize)
 }
 
 // The bit behind n texts, one behind the other.
-pub fn pass_texts(plate: &[u8], at: usize, n: usize, book: &[u8], own: &[u8], count: usize) -> Field
-    requires { ⌜ Lent (now plate) (now book) (now own) count ⌝ }
+pub fn pass_texts(
+    plate: &[u8],
+    at: usize,
+    n: usize,
+    index: &[u32],
+    book: &[u8],
+    own: &[u8],
+    count: usize,
+) -> Field
+    requires { ⌜ Lent (now plate) (now index) (now book) (now own) count ⌝ }
     ensures { λ r. ⌜ fieldRead (now (plate .entry)) r ≡ endWith n (many (λ j. reader.text (phrasesIn (now (book .entry)) (now (own .entry)) count)) n (placeAt (now (plate .entry)) at)) ⌝ }
 {
     let mut bit = at;
     let mut left = n;
     while 0 < left {
-        let text = read_text(plate, bit, book, own, count);
+        let text = read_text(plate, bit, index, book, own, count);
         let TextRead::Is(_, next) = text else {
             return Field::Refused(text.refusal());
         };

@@ -1,25 +1,25 @@
--- A line by the number of its fields, which counts its kind's word too.
+-- A line by the number of its fields behind the kind's word.
 use Prim.Native.Nat.{ℕ, _<_}
 use native.Mathlib.Omega.{arith}
 use mathlib.Core.Path.{_≡_, refl}
 use mathlib.Core.List.{List, [], _∷_}
-use mathlib.Core.Bool.{false, cond, _&&_}
+use mathlib.Core.Bool.{Bool, true, false, cond, _&&_}
 use mathlib.Core.Option.{Option, none, some, bind}
 use lib.ListN.{length, drop, getD}
 use lib.IntN.{ℤ}
 use lib.Dec.{eqb, leb, leb·suc-suc}
 use borrow.Author.Tests.{ne-eqb}
-use Rattle.causes.specs.declared.Cause.the-variants.{Kind}
-use Rattle.text.specs.Parts.{split, comma, all}
-use Rattle.text.specs.Text.{Text, isText}
+use Rattle.causes.specs.declared.Cause.the-variants.{Kind, Value}
+use Rattle.text.specs.Parts.{all}
+use Rattle.text.specs.Text.{isText}
 use Rattle.text.specs.Number.{register, constant, skip}
-use Rattle.text.proofs.Splits.{Some, split-some}
 use Rattle.transcript.specs.Statement.{input, inputs}
 use Rattle.transcript.specs.declared.Op.{Op}
 use Rattle.transcript.specs.declared.Test.{Test}
+use Rattle.lines.specs.declared.Form.{Form}
 use Rattle.lines.specs.declared.Form.the-variants.{Guide, Listing}
-use Rattle.lines.specs.Line.{Line, says, ifLine, gotoLine, ifSkipLine, faulty}
-use Rattle.lines.specs.Line.{valued, given, operator, textLine, inputLine, inputsLine, testLine, ifFields, bareLine, gotoFields}
+use Rattle.lines.specs.Line.{Line, says, ifLine, ifSkipLine, faulty}
+use Rattle.lines.specs.Line.{valued, given, operator, textLine, inputLine, inputsLine, testLine, ifFields}
 use Rattle.lines.specs.Fields.{testOf}
 
 past : (n k : ℕ) → k < n → eqb n k ≡ false
@@ -38,73 +38,54 @@ test-given r o c line = go (register r) (operator o) (constant c)
     go (some r) (some o) none = refl
     go (some r) (some o) (some c) = refl
 
-pub text-counted : (line : Text → Line) (fs : List (List ℕ))
-    → textLine line (drop 1 fs) ≡ cond (eqb (length fs) 2) (valued (isText (getD fs 1 [])) (line (getD fs 1 []))) (faulty Kind)
-text-counted line [] = refl
-text-counted line (w ∷ []) = refl
-text-counted line (w ∷ t ∷ []) = refl
-text-counted line (w ∷ t ∷ u ∷ fs) = rw (past (length (w ∷ t ∷ u ∷ fs)) 2 (omega arith))
-
-pub input-counted : (fs : List (List ℕ))
-    → inputLine (drop 1 fs)
-    ≡ cond (eqb (length fs) 3)
-    (given (register (getD fs 1 [])) (λ r. valued (isText (getD fs 2 [])) (says (input r (getD fs 2 [])))))
-    (faulty Kind)
-input-counted [] = refl
-input-counted (w ∷ []) = refl
-input-counted (w ∷ r ∷ []) = refl
-input-counted (w ∷ r ∷ t ∷ []) = refl
-input-counted (w ∷ r ∷ t ∷ u ∷ fs) = rw (past (length (w ∷ r ∷ t ∷ u ∷ fs)) 3 (omega arith))
-
 pub inputs-counted : (fs : List (List ℕ))
-    → inputsLine (drop 1 fs)
-    ≡ cond (leb 5 (length fs) && leb (length fs) 11)
-    (given (register (getD fs 1 [])) (λ r. valued (all isText (drop 2 fs)) (says (inputs r (getD fs 2 []) (drop 3 fs)))))
+    → inputsLine fs
+    ≡ cond (leb 4 (length fs) && leb (length fs) 10)
+    (given (register (getD fs 0 [])) (λ r. valued (all isText (drop 1 fs)) (says (inputs r (getD fs 1 []) (drop 2 fs)))))
     (faulty Kind)
 unfolding all
 inputs-counted [] = refl
-inputs-counted (w ∷ []) = refl
-inputs-counted (w ∷ r ∷ []) = refl
-inputs-counted (w ∷ r ∷ t ∷ fs) =
-    rw (leb·suc-suc, leb·suc-suc, leb·suc-suc, leb·suc-suc, leb·suc-suc, leb·suc-suc)
+inputs-counted (r ∷ []) = refl
+inputs-counted (r ∷ t ∷ fs) = rw (leb·suc-suc, leb·suc-suc, leb·suc-suc, leb·suc-suc)
+
+pub if-none : (form : Form) → ifFields form [] ≡ faulty Kind
+if-none Guide = refl
+if-none Listing = refl
 
 pub guide-if-counted : (fs : List (List ℕ))
-    → ifFields Guide (drop 1 fs)
-    ≡ cond (eqb (length fs) 4) (given (testOf (getD fs 1 []) (getD fs 2 []) (getD fs 3 [])) ifLine) (faulty Kind)
+    → ifFields Guide fs
+    ≡ cond (eqb (length fs) 3) (given (testOf (getD fs 0 []) (getD fs 1 []) (getD fs 2 [])) ifLine) (faulty Kind)
 guide-if-counted [] = refl
-guide-if-counted (w ∷ []) = refl
-guide-if-counted (w ∷ r ∷ []) = refl
-guide-if-counted (w ∷ r ∷ o ∷ []) = refl
-guide-if-counted (w ∷ r ∷ o ∷ c ∷ []) = test-given r o c ifLine
-guide-if-counted (w ∷ r ∷ o ∷ c ∷ k ∷ fs) = rw (past (length (w ∷ r ∷ o ∷ c ∷ k ∷ fs)) 4 (omega arith))
+guide-if-counted (r ∷ []) = refl
+guide-if-counted (r ∷ o ∷ []) = refl
+guide-if-counted (r ∷ o ∷ c ∷ []) = test-given r o c ifLine
+guide-if-counted (r ∷ o ∷ c ∷ k ∷ fs) = rw (past (length (r ∷ o ∷ c ∷ k ∷ fs)) 3 (omega arith))
 
 pub listing-if-counted : (fs : List (List ℕ))
-    → ifFields Listing (drop 1 fs)
-    ≡ cond (eqb (length fs) 5)
-    (given (testOf (getD fs 1 []) (getD fs 2 []) (getD fs 3 [])) (λ t. given (skip (getD fs 4 [])) (λ k. ifSkipLine t k)))
+    → ifFields Listing fs
+    ≡ cond (eqb (length fs) 4)
+    (given (testOf (getD fs 0 []) (getD fs 1 []) (getD fs 2 [])) (λ t. given (skip (getD fs 3 [])) (λ k. ifSkipLine t k)))
     (faulty Kind)
 listing-if-counted [] = refl
-listing-if-counted (w ∷ []) = refl
-listing-if-counted (w ∷ r ∷ []) = refl
-listing-if-counted (w ∷ r ∷ o ∷ []) = refl
-listing-if-counted (w ∷ r ∷ o ∷ c ∷ []) = refl
-listing-if-counted (w ∷ r ∷ o ∷ c ∷ k ∷ []) = test-given r o c (λ t. given (skip k) (λ k. ifSkipLine t k))
-listing-if-counted (w ∷ r ∷ o ∷ c ∷ k ∷ u ∷ fs) = rw (past (length (w ∷ r ∷ o ∷ c ∷ k ∷ u ∷ fs)) 5 (omega arith))
+listing-if-counted (r ∷ []) = refl
+listing-if-counted (r ∷ o ∷ []) = refl
+listing-if-counted (r ∷ o ∷ c ∷ []) = refl
+listing-if-counted (r ∷ o ∷ c ∷ k ∷ []) = test-given r o c (λ t. given (skip k) (λ k. ifSkipLine t k))
+listing-if-counted (r ∷ o ∷ c ∷ k ∷ u ∷ fs) = rw (past (length (r ∷ o ∷ c ∷ k ∷ u ∷ fs)) 4 (omega arith))
 
-pub bare-counted : (line : Line) (s : List ℕ)
-    → bareLine Guide line (drop 1 (split comma s)) ≡ cond (eqb (length (split comma s)) 1) line (faulty Kind)
-bare-counted line s = go (split comma s) (split-some comma s)
+-- a question's line is that of its text, once its register is known
+pub input-register : (r : List ℕ) (n : ℕ) (fs : List (List ℕ)) → register r ≡ some n
+    → inputLine (r ∷ fs) ≡ textLine (λ t. says (input n t)) fs
+input-register r n [] h = refl
+input-register r n (t ∷ []) h = rw h
+input-register r n (t ∷ u ∷ fs) h = refl
+
+-- with a wrong register the count of fields is still judged first
+pub input-wrong : (r : List ℕ) (fs : List (List ℕ)) → register r ≡ none → inputLine (r ∷ fs) ≡ textLine (λ t. faulty Value) fs
+input-wrong r [] h = refl
+input-wrong r (t ∷ []) h = rw h (go (isText t))
   where
-    behind : (w : List ℕ) (fs : List (List ℕ)) → bareLine Guide line fs ≡ cond (eqb (length (w ∷ fs)) 1) line (faulty Kind)
-    behind w [] = refl
-    behind w (f ∷ fs) = rw (past (length (w ∷ f ∷ fs)) 1 (omega arith))
-
-    go : (ps : List (List ℕ)) → Some ps → bareLine Guide line (drop 1 ps) ≡ cond (eqb (length ps) 1) line (faulty Kind)
-    go ps (w, fs, e) = rw e (behind w fs)
-
-pub goto-counted : (fs : List (List ℕ))
-    → gotoFields Listing (drop 1 fs) ≡ cond (eqb (length fs) 2) (given (skip (getD fs 1 [])) (λ k. gotoLine k)) (faulty Kind)
-goto-counted [] = refl
-goto-counted (w ∷ []) = refl
-goto-counted (w ∷ k ∷ []) = refl
-goto-counted (w ∷ k ∷ u ∷ fs) = rw (past (length (w ∷ k ∷ u ∷ fs)) 2 (omega arith))
+    go : (b : Bool) → faulty Value ≡ valued b (faulty Value)
+    go true = refl
+    go false = refl
+input-wrong r (t ∷ u ∷ fs) h = refl

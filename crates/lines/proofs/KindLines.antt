@@ -1,15 +1,16 @@
 -- A line goes by the kind of its first field.
-use Prim.Native.Nat.{ℕ}
+use Prim.Native.Nat.{ℕ, _+_, _-_}
 use mathlib.Core.Path.{_≡_, refl, sym, ap, _∙_}
-use mathlib.Core.List.{List, []}
+use mathlib.Core.List.{List, _∷_}
 use mathlib.Core.Bool.{Bool, true, false, cond}
 use mathlib.Core.Option.{some}
-use lib.ListN.{drop, getD}
+use native.Mathlib.Omega.{arith}
+use lib.ListN.{take, drop}
 use Rattle.text.specs.Quoted.{bytes}
-use Rattle.text.specs.Parts.{split, comma, same, all}
+use Rattle.text.specs.Parts.{split, comma, partsFrom, untilByte, same, all}
 use Rattle.text.specs.Text.{allowed}
 use Rattle.text.proofs.Tests.{same-equal}
-use Rattle.text.proofs.Splits.{Some, split-some}
+use Rattle.text.proofs.Places.{parts-whole, parts-next}
 use Rattle.transcript.specs.declared.Op.the-variants.{Eq, Ne, Lt, Le, Gt, Ge}
 use Rattle.lines.specs.declared.Form.{Form}
 use Rattle.lines.specs.declared.words.Kind.{Kind}
@@ -25,7 +26,7 @@ use Rattle.lines.specs.declared.words.Kind.the-variants.{
   Goto,
   Unknown,
 }
-use Rattle.lines.specs.Line.{Line, operator, kindLine, fieldsLine, lineOf}
+use Rattle.lines.specs.Line.{Line, operator, kindLine, lineOf}
 use Rattle.lines.specs.Words.{kindOf, lineOfKind}
 
 kind-line : (form : Form) (w : List ℕ) (fs : List (List ℕ)) → kindLine form w fs ≡ lineOfKind form (kindOf w) fs
@@ -45,14 +46,15 @@ kind-line form w fs =
     test true k j m h = refl
     test false k j m h = h
 
--- a line of allowed bytes, whose first field p names the kind k
-pub line-of-kind : (form : Form) (s p : List ℕ) (k : Kind) → all allowed s ≡ true → p ≡ getD (split comma s) 0 [] → k ≡ kindOf p
-    → lineOf form s ≡ lineOfKind form k (drop 1 (split comma s))
+-- a line of allowed bytes, whose first field p ends at e and names the kind k
+pub line-of-kind : (form : Form) (s p : List ℕ) (k : Kind) (e : ℕ) → all allowed s ≡ true → e ≡ 0 + untilByte comma (drop 0 s) → p ≡ take e s
+    → k ≡ kindOf p → lineOf form s ≡ lineOfKind form k (partsFrom comma (e + 1) s)
 unfolding lineOf
-line-of-kind form s p k h e d = rw (h, d, e) (go (split comma s) (split-some comma s))
-  where
-    go : (fs : List (List ℕ)) → Some fs → fieldsLine form fs ≡ lineOfKind form (kindOf (getD fs 0 [])) (drop 1 fs)
-    go fs (w, rest, e) = rw e (kind-line form w rest)
+line-of-kind form s p k e h u f d =
+    let size : e - 0 ≡ e = omega arith in
+    let fields : split comma s ≡ take e s ∷ partsFrom comma (e + 1) s =
+    parts-whole comma s ∙ rw size at (parts-next comma s 0 e (omega arith) u) in
+    rw (h, fields, d, f) (kind-line form (take e s) (partsFrom comma (e + 1) s))
 
 -- what a word gives that was found the same as the word v
 pub by-word : {A : Type 0} (f : List ℕ → A) (w v : List ℕ) {r : Bool} → r ≡ same w v → r ≡ true → f v ≡ f w

@@ -5,6 +5,7 @@ pub mod Kept
 pub mod Accepts
 pub mod KindLines
 pub mod FieldCounts
+pub mod FieldPlaces
 pub mod FieldValues
 pub mod OpenIfs
 pub mod Heads

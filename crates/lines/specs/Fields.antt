@@ -1,22 +1,12 @@
--- The fields of a line, and the R, OP and C of an if with the answer of their reader.
+-- The R, OP and C of an if, with the answer of their reader.
 use Prim.Native.Nat.{ℕ}
-use mathlib.Core.List.{List, []}
+use mathlib.Core.List.{List}
 use mathlib.Core.Option.{Option, none, some, bind}
-use lib.ListN.{drop, getD}
-use Rattle.text.specs.Parts.{split, comma}
 use Rattle.text.specs.Number.{register, constant}
 use Rattle.transcript.specs.declared.Test.{Test}
 use Rattle.lines.specs.declared.fields.TestRead.{TestRead}
 use Rattle.lines.specs.declared.fields.TestRead.the-variants.{Is, Wrong}
 use Rattle.lines.specs.Line.{operator}
-
--- the fields behind the kind
-abbrev pub fieldsOf : List ℕ → List (List ℕ)
-fieldsOf s = drop 1 (split comma s)
-
--- field k, where the kind is field 0
-abbrev pub field : List ℕ → ℕ → List ℕ
-field s k = getD (split comma s) k []
 
 -- the test that three fields give
 unfoldable pub testOf : List ℕ → List ℕ → List ℕ → Option Test

@@ -4,6 +4,7 @@ ghost use mathlib.Core.List.{List};
 ghost use lib.ListN.{length};
 ghost use Rattle.text.specs.Text.{Text};
 ghost use Rattle.phrases.specs.Lookup.{bookTexts};
+ghost use Rattle.phrases.specs.Index.{Indexed};
 ghost use Rattle.lines.specs.Check.{nothingSeen, checkFrom, atEnd, linesOf, mostBytes};
 ghost use Rattle.lines.specs.Held.{Sound, openIfs, seenOf};
 ghost use Rattle.lines.specs.Answers.{seenIn, checkedAnswer};
@@ -18,8 +19,9 @@ use crate::seen::nothing_seen;
 use causes::Cause;
 use causes::Refusal;
 
-// A guide or listing against this book: 2 before the lines, then line by line, and 7 at the end.
-pub fn check(form: Form, book: &[u8], text: &[u8]) -> Checked
+// A guide or listing against this book, of which there is an index: 2 before the lines, then line by line, and 7 at the end.
+pub fn check(form: Form, index: &[u32], book: &[u8], text: &[u8]) -> Checked
+    requires { ⌜ Indexed (now index) (now book) ⌝ }
     ensures { λ r. ⌜ r ≡ checkedAnswer (seenIn form (bookTexts (now (book .entry))) (now (text .entry))) ⌝ }
 {
     if most_bytes(form) < text.len() {
@@ -28,7 +30,7 @@ pub fn check(form: Form, book: &[u8], text: &[u8]) -> Checked
             place: 0,
         });
     }
-    check_lines(form, book, text)
+    check_lines(form, index, book, text)
 }
 
 // How long a guide or listing may be.
@@ -42,7 +44,8 @@ fn most_bytes(form: Form) -> usize
 }
 
 // The lines, of which n end before the place a.
-fn check_lines(form: Form, book: &[u8], text: &[u8]) -> Checked
+fn check_lines(form: Form, index: &[u32], book: &[u8], text: &[u8]) -> Checked
+    requires { ⌜ Indexed (now index) (now book) ⌝ }
     ensures { λ r. ⌜ r ≡ checkedAnswer (checkFrom (bookTexts (now (book .entry))) 1 nothingSeen (linesOf form (now (text .entry)))) ⌝ }
 {
     let mut s = nothing_seen();
@@ -58,7 +61,7 @@ fn check_lines(form: Form, book: &[u8], text: &[u8]) -> Checked
         }
         let line = &text[a..e];
         let head = read_line(form, line);
-        if let Fault::Is(cause) = cause_of(book, text, line, head, s) {
+        if let Fault::Is(cause) = cause_of(index, book, text, line, head, s) {
             return Checked::Refused(Refusal {
                 cause,
                 place: n + 1,

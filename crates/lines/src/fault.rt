@@ -3,6 +3,7 @@ ghost use mathlib.Core.Path.{_≡_};
 ghost use mathlib.Core.List.{[]};
 ghost use lib.ListN.{length};
 ghost use Rattle.phrases.specs.Lookup.{bookTexts, ownTexts, phraseText};
+ghost use Rattle.phrases.specs.Index.{Indexed};
 ghost use Rattle.transcript.specs.declared.Test as test;
 ghost use Rattle.lines.specs.Line as line;
 ghost use Rattle.lines.specs.Check as check;
@@ -19,12 +20,12 @@ pub enum Fault {
 }
 
 // Of a line with this head, behind the lines of the text that s holds.
-pub fn cause_of(book: &[u8], text: &[u8], line: &[u8], head: Head, s: Seen) -> Fault
-    requires { ⌜ (length (ownTexts (s .own) (now text)) ≡ s .own) × Sound s ⌝ }
+pub fn cause_of(index: &[u32], book: &[u8], text: &[u8], line: &[u8], head: Head, s: Seen) -> Fault
+    requires { ⌜ Indexed (now index) (now book) × (length (ownTexts (s .own) (now text)) ≡ s .own) × Sound s ⌝ }
     ensures { λ r. ⌜ r ≡ faultAnswer (check.causeOf (bookTexts (now (book .entry))) (seenWith (now (text .entry)) s) (lineWith (phraseText (now (line .entry))) head)) ⌝ }
 {
     match head {
-        Head::Phrase => phrase_fault(book, text, text::part(line, b',', 1), s),
+        Head::Phrase => phrase_fault(index, book, text, text::part(line, b',', 1), s),
         Head::If { test: _ } => if_fault(s),
         Head::Else => else_fault(s),
         Head::Fi => fi_fault(s),
@@ -34,8 +35,8 @@ pub fn cause_of(book: &[u8], text: &[u8], line: &[u8], head: Head, s: Seen) -> F
 }
 
 // 6: a phrase behind an instruction, the 33rd, or one that is in the book or among the own phrases.
-fn phrase_fault(book: &[u8], text: &[u8], phrase: &[u8], s: Seen) -> Fault
-    requires { ⌜ length (ownTexts (s .own) (now text)) ≡ s .own ⌝ }
+fn phrase_fault(index: &[u32], book: &[u8], text: &[u8], phrase: &[u8], s: Seen) -> Fault
+    requires { ⌜ Indexed (now index) (now book) × (length (ownTexts (s .own) (now text)) ≡ s .own) ⌝ }
     ensures { λ r. ⌜ r ≡ faultAnswer (check.phraseCause (bookTexts (now (book .entry))) (seenWith (now (text .entry)) s) (now (phrase .entry))) ⌝ }
 {
     if s.instructions != 0 {
@@ -44,7 +45,7 @@ fn phrase_fault(book: &[u8], text: &[u8], phrase: &[u8], s: Seen) -> Fault
     if 32 <= s.own {
         return Fault::Is(Cause::Phrase);
     }
-    match phrases::find_phrase(book, text, s.own, phrase) {
+    match phrases::find_phrase(index, book, text, s.own, phrase) {
         Found::InBook(_) => Fault::Is(Cause::Phrase),
         Found::InOwn(_) => Fault::Is(Cause::Phrase),
         Found::Nowhere => Fault::Absent,

@@ -1,10 +1,12 @@
-// The fields behind each kind of line, read from the whole line.
+// The fields behind each kind of line: those of the line s from the place a on, parted by commas. Where a is past the line's end there are none.
 ghost use mathlib.Core.Path.{_≡_};
-ghost use Rattle.text.specs.Number.{register};
+ghost use mathlib.Core.List.{[]};
+ghost use Prim.Native.Nat.{_≤_};
+ghost use lib.ListN.{length, drop, getD};
+ghost use Rattle.text.specs.Parts.{comma, partsFrom};
 ghost use Rattle.text.specs.Text.{Text};
-ghost use Rattle.text.specs.Answers.{naturalAnswer};
 ghost use Rattle.lines.specs.Line as line;
-ghost use Rattle.lines.specs.Fields.{fieldsOf, field, testOf, testAnswer};
+ghost use Rattle.lines.specs.Fields.{testOf, testAnswer};
 ghost use Rattle.lines.specs.Answers.{headOf};
 use crate::Form;
 use crate::Head;
@@ -21,70 +23,94 @@ pub enum TestRead {
     Wrong,
 }
 
-// The R of a line.
-fn read_register(s: &[u8]) -> Natural
-    ensures { λ r. ⌜ r ≡ naturalAnswer (register (field (now (s .entry)) 1)) ⌝ }
+// The first field; no bytes where there is none.
+fn field_at(s: &[u8], a: usize) -> &[u8]
+    ensures { λ r. ⌜ now r ≡ getD (partsFrom comma a (now (s .entry))) 0 [] ⌝ }
 {
-    text::read_natural(text::part(s, b',', 1), 31)
+    if s.len() < a {
+        return &s[..0];
+    }
+    let e = text::find(s, a, b',');
+    &s[a..e]
 }
 
-// One text, of a line with this head: `phrase,TEXT`, `print,TEXT` and `printex,TEXT`.
-pub fn read_text(s: &[u8], head: Head) -> Head
-    ensures { λ r. ⌜ ((l : Text → line.Line) → ((t : Text) → headOf (l t) ≡ head) → r ≡ headOf (line.textLine l (fieldsOf (now (s .entry))))) ⌝ }
+// Where the fields behind the first begin.
+fn behind(s: &[u8], a: usize) -> usize
+    ensures { λ r. ⌜ partsFrom comma r (now (s .entry)) ≡ drop 1 (partsFrom comma a (now (s .entry))) ⌝ }
 {
-    if text::count_parts(s, b',') != 2 {
+    if s.len() < a {
+        return a;
+    }
+    text::find(s, a, b',') + 1
+}
+
+// One text, of a line with this head: `phrase,TEXT`, `print,TEXT` and `printex,TEXT`. A text has no comma, so it is the only field.
+pub fn read_text(s: &[u8], a: usize, head: Head) -> Head
+    ensures { λ r. ⌜ ((l : Text → line.Line) → ((t : Text) → headOf (l t) ≡ head) → r ≡ headOf (line.textLine l (partsFrom comma a (now (s .entry))))) ⌝ }
+{
+    if s.len() < a {
         return Head::Faulty { cause: Cause::Kind };
     }
-    if text::is_text(text::part(s, b',', 1)) {
+    if text::is_text(&s[a..]) {
         return head;
     }
+    if text::find(s, a, b',') < s.len() {
+        return Head::Faulty { cause: Cause::Kind };
+    }
     Head::Faulty {
         cause: Cause::Value,
     }
 }
 
-// `input,R,TEXT`.
-pub fn read_input(s: &[u8]) -> Head
-    ensures { λ r. ⌜ r ≡ headOf (line.inputLine (fieldsOf (now (s .entry)))) ⌝ }
+// `input,R,TEXT`: with a wrong R, the text still tells a wrong count of fields from a wrong value.
+pub fn read_input(s: &[u8], a: usize) -> Head
+    ensures { λ r. ⌜ r ≡ headOf (line.inputLine (partsFrom comma a (now (s .entry)))) ⌝ }
 {
-    if text::count_parts(s, b',') != 3 {
+    if s.len() < a {
         return Head::Faulty { cause: Cause::Kind };
     }
-    let Natural::Is(register) = read_register(s) else {
-        return Head::Faulty {
-            cause: Cause::Value,
-        };
-    };
-    if text::is_text(text::part(s, b',', 2)) {
-        return Head::Input {
-            register: register as usize,
-        };
-    }
-    Head::Faulty {
-        cause: Cause::Value,
+    let e = text::find(s, a, b',');
+    match text::read_natural(&s[a..e], 31) {
+        Natural::Is(register) => read_text(
+            s,
+            e + 1,
+            Head::Input {
+                register: register as usize,
+            },
+        ),
+        Natural::Wrong => read_text(
+            s,
+            e + 1,
+            Head::Faulty {
+                cause: Cause::Value,
+            },
+        ),
     }
 }
 
 // `inputs,R,TEXT,OPTION,..`, with 2 to 8 options.
-pub fn read_inputs(s: &[u8]) -> Head
-    ensures { λ r. ⌜ r ≡ headOf (line.inputsLine (fieldsOf (now (s .entry)))) ⌝ }
+pub fn read_inputs(s: &[u8], a: usize) -> Head
+    ensures { λ r. ⌜ r ≡ headOf (line.inputsLine (partsFrom comma a (now (s .entry)))) ⌝ }
 {
-    let n = text::count_parts(s, b',');
-    if n < 5 {
+    if s.len() < a {
         return Head::Faulty { cause: Cause::Kind };
     }
-    if 11 < n {
+    let n = text::count_parts(&s[a..], b',');
+    if n < 4 {
         return Head::Faulty { cause: Cause::Kind };
     }
-    let Natural::Is(register) = read_register(s) else {
+    if 10 < n {
+        return Head::Faulty { cause: Cause::Kind };
+    }
+    let Natural::Is(register) = text::read_natural(field_at(s, a), 31) else {
         return Head::Faulty {
             cause: Cause::Value,
         };
     };
-    if text::are_texts(s, 2) {
+    if text::are_texts(&s[a..], 1) {
         return Head::Inputs {
             register: register as usize,
-            options: n - 3,
+            options: n - 2,
         };
     }
     Head::Faulty {
@@ -93,16 +119,17 @@ pub fn read_inputs(s: &[u8]) -> Head
 }
 
 // The R, OP and C of an if.
-pub fn read_test(s: &[u8]) -> TestRead
-    ensures { λ r. ⌜ r ≡ testAnswer (testOf (field (now (s .entry)) 1) (field (now (s .entry)) 2) (field (now (s .entry)) 3)) ⌝ }
+pub fn read_test(s: &[u8], a: usize) -> TestRead
+    ensures { λ r. ⌜ r ≡ testAnswer (testOf (getD (partsFrom comma a (now (s .entry))) 0 []) (getD (partsFrom comma a (now (s .entry))) 1 []) (getD (partsFrom comma a (now (s .entry))) 2 [])) ⌝ }
 {
-    let Natural::Is(register) = read_register(s) else {
+    let Natural::Is(register) = text::read_natural(field_at(s, a), 31) else {
         return TestRead::Wrong;
     };
-    let Operator::Is(op) = read_operator(text::part(s, b',', 2)) else {
+    let b = behind(s, a);
+    let Operator::Is(op) = read_operator(field_at(s, b)) else {
         return TestRead::Wrong;
     };
-    let Constant::Is(constant) = text::read_constant(text::part(s, b',', 3)) else {
+    let Constant::Is(constant) = text::read_constant(field_at(s, behind(s, b))) else {
         return TestRead::Wrong;
     };
     TestRead::Is(Test {
@@ -113,22 +140,26 @@ pub fn read_test(s: &[u8]) -> TestRead
 }
 
 // A guide's `if,R,OP,C`; a listing's `if,R,OP,C,SKIP`.
-pub fn read_if(form: Form, s: &[u8]) -> Head
-    ensures { λ r. ⌜ r ≡ headOf (line.ifFields form (fieldsOf (now (s .entry)))) ⌝ }
+pub fn read_if(form: Form, s: &[u8], a: usize) -> Head
+    ensures { λ r. ⌜ r ≡ headOf (line.ifFields form (partsFrom comma a (now (s .entry)))) ⌝ }
 {
+    if s.len() < a {
+        return Head::Faulty { cause: Cause::Kind };
+    }
     match form {
-        Form::Guide => read_guide_if(s),
-        Form::Listing => read_listing_if(s),
+        Form::Guide => read_guide_if(s, a),
+        Form::Listing => read_listing_if(s, a),
     }
 }
 
-fn read_guide_if(s: &[u8]) -> Head
-    ensures { λ r. ⌜ r ≡ headOf (line.ifFields Form.Guide (fieldsOf (now (s .entry)))) ⌝ }
+fn read_guide_if(s: &[u8], a: usize) -> Head
+    requires { ⌜ a ≤ length (now s) ⌝ }
+    ensures { λ r. ⌜ r ≡ headOf (line.ifFields Form.Guide (partsFrom comma a (now (s .entry)))) ⌝ }
 {
-    if text::count_parts(s, b',') != 4 {
+    if text::count_parts(&s[a..], b',') != 3 {
         return Head::Faulty { cause: Cause::Kind };
     }
-    let TestRead::Is(test) = read_test(s) else {
+    let TestRead::Is(test) = read_test(s, a) else {
         return Head::Faulty {
             cause: Cause::Value,
         };
@@ -136,18 +167,19 @@ fn read_guide_if(s: &[u8]) -> Head
     Head::If { test }
 }
 
-fn read_listing_if(s: &[u8]) -> Head
-    ensures { λ r. ⌜ r ≡ headOf (line.ifFields Form.Listing (fieldsOf (now (s .entry)))) ⌝ }
+fn read_listing_if(s: &[u8], a: usize) -> Head
+    requires { ⌜ a ≤ length (now s) ⌝ }
+    ensures { λ r. ⌜ r ≡ headOf (line.ifFields Form.Listing (partsFrom comma a (now (s .entry)))) ⌝ }
 {
-    if text::count_parts(s, b',') != 5 {
+    if text::count_parts(&s[a..], b',') != 4 {
         return Head::Faulty { cause: Cause::Kind };
     }
-    let TestRead::Is(test) = read_test(s) else {
+    let TestRead::Is(test) = read_test(s, a) else {
         return Head::Faulty {
             cause: Cause::Value,
         };
     };
-    let Natural::Is(skip) = text::read_natural(text::part(s, b',', 4), 511) else {
+    let Natural::Is(skip) = text::read_natural(text::part(&s[a..], b',', 3), 511) else {
         return Head::Faulty {
             cause: Cause::Value,
         };
@@ -159,29 +191,33 @@ fn read_listing_if(s: &[u8]) -> Head
 }
 
 // No field, of a guide's line with this head: `else` and `fi`.
-pub fn read_bare(form: Form, s: &[u8], head: Head) -> Head
-    ensures { λ r. ⌜ ((l : line.Line) → headOf l ≡ head → r ≡ headOf (line.bareLine form l (fieldsOf (now (s .entry))))) ⌝ }
+pub fn read_bare(form: Form, s: &[u8], a: usize, head: Head) -> Head
+    ensures { λ r. ⌜ ((l : line.Line) → headOf l ≡ head → r ≡ headOf (line.bareLine form l (partsFrom comma a (now (s .entry))))) ⌝ }
 {
     if let Form::Listing = form {
         return Head::Faulty { cause: Cause::Kind };
     }
-    if text::count_parts(s, b',') != 1 {
+    if a <= s.len() {
         return Head::Faulty { cause: Cause::Kind };
     }
     head
 }
 
 // A listing's `goto,SKIP`.
-pub fn read_goto(form: Form, s: &[u8]) -> Head
-    ensures { λ r. ⌜ r ≡ headOf (line.gotoFields form (fieldsOf (now (s .entry)))) ⌝ }
+pub fn read_goto(form: Form, s: &[u8], a: usize) -> Head
+    ensures { λ r. ⌜ r ≡ headOf (line.gotoFields form (partsFrom comma a (now (s .entry)))) ⌝ }
 {
     if let Form::Guide = form {
         return Head::Faulty { cause: Cause::Kind };
     }
-    if text::count_parts(s, b',') != 2 {
+    if s.len() < a {
         return Head::Faulty { cause: Cause::Kind };
     }
-    let Natural::Is(skip) = text::read_natural(text::part(s, b',', 1), 511) else {
+    let e = text::find(s, a, b',');
+    if e < s.len() {
+        return Head::Faulty { cause: Cause::Kind };
+    }
+    let Natural::Is(skip) = text::read_natural(&s[a..e], 511) else {
         return Head::Faulty {
             cause: Cause::Value,
         };

@@ -1,7 +1,7 @@
 // One line by itself.
 ghost use mathlib.Core.Path.{_≡_};
+ghost use Rattle.text.specs.Parts.{comma, partsFrom};
 ghost use Rattle.lines.specs.Line as line;
-ghost use Rattle.lines.specs.Fields.{fieldsOf};
 ghost use Rattle.lines.specs.Words.{lineOfKind};
 ghost use Rattle.lines.specs.Answers.{headOf};
 use crate::Form;
@@ -21,25 +21,26 @@ pub fn read_line(form: Form, s: &[u8]) -> Head
     ensures { λ r. ⌜ r ≡ headOf (line.lineOf form (now (s .entry))) ⌝ }
 {
     if text::are_allowed(s) {
-        return read_fields(form, kind_of(text::part(s, b',', 0)), s);
+        let e = text::find(s, 0, b',');
+        return read_fields(form, kind_of(&s[..e]), s, e + 1);
     }
     Head::Faulty { cause: Cause::Byte }
 }
 
-// A line of this kind.
-fn read_fields(form: Form, kind: Kind, s: &[u8]) -> Head
-    ensures { λ r. ⌜ r ≡ headOf (lineOfKind form kind (fieldsOf (now (s .entry)))) ⌝ }
+// A line of this kind, whose fields behind the kind begin at a.
+fn read_fields(form: Form, kind: Kind, s: &[u8], a: usize) -> Head
+    ensures { λ r. ⌜ r ≡ headOf (lineOfKind form kind (partsFrom comma a (now (s .entry)))) ⌝ }
 {
     match kind {
-        Kind::Phrase => read_text(s, Head::Phrase),
-        Kind::Input => read_input(s),
-        Kind::Inputs => read_inputs(s),
-        Kind::Print => read_text(s, Head::Print),
-        Kind::Printex => read_text(s, Head::Printex),
-        Kind::If => read_if(form, s),
-        Kind::Else => read_bare(form, s, Head::Else),
-        Kind::Fi => read_bare(form, s, Head::Fi),
-        Kind::Goto => read_goto(form, s),
+        Kind::Phrase => read_text(s, a, Head::Phrase),
+        Kind::Input => read_input(s, a),
+        Kind::Inputs => read_inputs(s, a),
+        Kind::Print => read_text(s, a, Head::Print),
+        Kind::Printex => read_text(s, a, Head::Printex),
+        Kind::If => read_if(form, s, a),
+        Kind::Else => read_bare(form, s, a, Head::Else),
+        Kind::Fi => read_bare(form, s, a, Head::Fi),
+        Kind::Goto => read_goto(form, s, a),
         Kind::Unknown => Head::Faulty { cause: Cause::Kind },
     }
 }

@@ -1,5 +1,5 @@
 -- What an answer says of what was looked for.
-use Prim.Native.Nat.{ℕ}
+use Prim.Native.Nat.{ℕ, _≤_}
 use mathlib.Core.Path.{_≡_, refl, sym, ap, _∙_}
 use mathlib.Core.List.{List}
 use mathlib.Core.Option.{Option, none, some}
@@ -14,9 +14,10 @@ use Rattle.phrases.specs.declared.Book as book
 use Rattle.phrases.specs.declared.Book.the-variants.{Holds, Bad}
 use Rattle.phrases.specs.declared.Found.{Found}
 use Rattle.phrases.specs.declared.Found.the-variants.{InBook, InOwn, Nowhere}
-use Rattle.phrases.specs.declared.lookup.Place.{Place}
-use Rattle.phrases.specs.declared.lookup.Place.the-variants.{At, Missing}
+use Rattle.phrases.specs.declared.index.Place.{Place}
+use Rattle.phrases.specs.declared.index.Place.the-variants.{At, Missing}
 use Rattle.phrases.proofs.Texts.{Checks, book-checks}
+use Rattle.phrases.proofs.BookValid.{book-ok}
 
 -- ---- of the search among texts
 
@@ -62,3 +63,6 @@ module _ (b : List ℕ) where
 
   pub book-count-is : {n : ℕ} → bookAnswer (bookPhrases b) ≡ Holds n → n ≡ length (bookTexts b)
   book-count-is {n} h = let e : Holds n ≡ Holds (length (bookTexts b)) = sym h ∙ ap bookAnswer (book-is h) in cc
+
+  pub book-few : {n : ℕ} → bookAnswer (bookPhrases b) ≡ Holds n → n ≤ 256
+  book-few h = rw (book-count-is h) (book-ok b (bookTexts b) (book-is h) .1)

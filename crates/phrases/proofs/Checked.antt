@@ -7,7 +7,10 @@ use mathlib.Core.Bool.{true, false, _&&_, and-false}
 use mathlib.Core.Option.{none, some}
 use lib.ListN.{length, take, drop, drop-of-length-le, length-append}
 use lib.Seq.{drop-cons}
-use borrow.Author.Tests.{lt-ltb, le-ltb}
+use lib.Dec.{ltb}
+use borrow.Author.Tests.{lt-ltb, le-ltb, ltb-true}
+use Rattle.text.proofs.Tests.{and-parts}
+use Rattle.text.proofs.Bytes.{text-size}
 use Rattle.text.specs.Parts.{split, untilByte, LF}
 use Rattle.text.specs.Text.{Text, isText}
 use Rattle.text.proofs.Places.{part-first, part-last}
@@ -34,6 +37,12 @@ module _ (earlier : List Text) (t : Text) where
   pub next-good : length earlier < 256 → isText t ≡ true → place earlier t ≡ none → isNext earlier t ≡ true
   unfolding find place
   next-good l h k = rw (lt-ltb (length earlier) 256 l, h, k)
+
+  -- a good line has at most 64 bytes, and there are fewer than 256 before it
+  pub next-small : isNext earlier t ≡ true → (length t ≤ 64) × (length earlier < 256)
+  next-small h =
+      let tests = and-parts (isText t && isNew [] earlier t) (ltb (length earlier) 256) h in
+      (text-size t (and-parts (isText t) (isNew [] earlier t) (tests .0) .0) .1, ltb-true _ _ (tests .1))
 
 -- ---- the lines before the place a are n good lines
 

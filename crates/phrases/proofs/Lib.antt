@@ -7,3 +7,5 @@ pub mod Search
 pub mod Checked
 pub mod Texts
 pub mod Answers
+pub mod Entries
+mod Weights

@@ -1,3 +1,4 @@
 pub mod Phrases
 pub mod Book
 pub mod Lookup
+pub mod Index

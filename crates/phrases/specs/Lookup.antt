@@ -12,8 +12,8 @@ use Rattle.phrases.specs.declared.Book as book
 use Rattle.phrases.specs.declared.Book.the-variants.{Holds, Bad}
 use Rattle.phrases.specs.declared.Found.{Found}
 use Rattle.phrases.specs.declared.Found.the-variants.{InBook, InOwn, Nowhere}
-use Rattle.phrases.specs.declared.lookup.Place.{Place}
-use Rattle.phrases.specs.declared.lookup.Place.the-variants.{At, Missing}
+use Rattle.phrases.specs.declared.index.Place.{Place}
+use Rattle.phrases.specs.declared.index.Place.the-variants.{At, Missing}
 use Rattle.phrases.specs.Phrases.{Phrases, Where, inBook, inOwn, nowhere}
 
 -- the parts that end at an LF

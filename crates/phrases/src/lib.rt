@@ -1,15 +1,15 @@
 // Phrases: the lent phrase book with its check, a guide's or plate's own phrases, and the place of a text among both.
 // specs/Book.antt says what a book holds and which line is its first bad one; specs/Phrases.antt how a text is found, and how many
 // bits a place takes; specs/Lookup.antt where the phrases stand: the book's lines, and the first lines `phrase,TEXT` of another text.
-// Every function takes any content of any length, and its contract says its whole answer by a definition of specs/. `width_of` alone
-// has a condition: at most 65,536 phrases.
-// `phrase_text` returns a part of the book or of the own phrases, never a copy. A lookup goes through each line once.
+// `check_book` takes any bytes; the lookups take the index that it made (specs/Index.antt), so that a text is compared with few others.
+// Each contract says the whole answer by a definition of specs/. `width_of` takes at most 65,536 phrases.
+// `phrase_text` returns a part of the book or of the own phrases, never a copy.
 mod check;
+mod index;
 mod lookup;
 mod widths;
 
 pub use check::check_book;
-pub use check::count_texts;
 pub use lookup::find_phrase;
 pub use lookup::phrase_text;
 pub use widths::width_of;

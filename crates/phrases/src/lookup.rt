@@ -1,34 +1,11 @@
 // Where a text is a phrase: among the lines of the book, then among the own phrases; and the text of a phrase by its place.
 ghost use mathlib.Core.Path.{_≡_};
 ghost use Rattle.phrases.specs.Phrases as phrases;
-ghost use Rattle.phrases.specs.Lookup.{bookTexts, ownTexts, phrasesIn, phraseIn, placeAnswer, foundAnswer};
+ghost use Rattle.phrases.specs.Lookup.{ownTexts, phrasesIn, phraseIn, placeAnswer, foundAnswer};
+ghost use Rattle.phrases.specs.Index.{Indexed};
 use crate::Found;
-
-// The place of a text among texts, from 0.
-pub enum Place {
-    At(usize),
-    Missing,
-}
-
-// The place of a text among the lines of a book that end in LF.
-pub fn find_line(book: &[u8], text: &[u8]) -> Place
-    ensures { λ r. ⌜ r ≡ placeAnswer (phrases.place (bookTexts (now (book .entry))) (now (text .entry))) ⌝ }
-{
-    let mut n = 0;
-    let mut a = 0;
-    while a < book.len() {
-        let e = text::find(book, a, b'\n');
-        if e == book.len() {
-            return Place::Missing;
-        }
-        if text::same(text, &book[a..e]) {
-            return Place::At(n);
-        }
-        a = e + 1;
-        n += 1;
-    }
-    Place::Missing
-}
+use crate::index::Place;
+use crate::index::find_line;
 
 // The place of a text among the texts of the first `count` lines `phrase,TEXT`.
 fn find_own(own: &[u8], count: usize, text: &[u8]) -> Place
@@ -51,10 +28,11 @@ fn find_own(own: &[u8], count: usize, text: &[u8]) -> Place
 }
 
 // The place of a text in the book, else among the own phrases, which are the first `count` lines of `own`.
-pub fn find_phrase(book: &[u8], own: &[u8], count: usize, text: &[u8]) -> Found
+pub fn find_phrase(index: &[u32], book: &[u8], own: &[u8], count: usize, text: &[u8]) -> Found
+    requires { ⌜ Indexed (now index) (now book) ⌝ }
     ensures { λ r. ⌜ r ≡ foundAnswer (phrases.find (phrasesIn (now (book .entry)) (now (own .entry)) count) (now (text .entry))) ⌝ }
 {
-    if let Place::At(i) = find_line(book, text) {
+    if let Place::At(i) = find_line(index, book, text) {
         return Found::InBook(i);
     }
     match find_own(own, count, text) {
@@ -64,11 +42,23 @@ pub fn find_phrase(book: &[u8], own: &[u8], count: usize, text: &[u8]) -> Found
 }
 
 // The text of the phrase at a place of the book, or among the own phrases: a part of one of the two, never a copy.
-pub fn phrase_text<'a>(book: &'a [u8], own: &'a [u8], is_own: bool, i: usize) -> &'a [u8]
+pub fn phrase_text<'a>(
+    index: &'a [u32],
+    book: &'a [u8],
+    own: &'a [u8],
+    is_own: bool,
+    i: usize,
+) -> &'a [u8]
+    requires { ⌜ Indexed (now index) (now book) ⌝ }
     ensures { λ r. ⌜ now r ≡ phraseIn (now (book .entry)) (now (own .entry)) «is_own» i ⌝ }
 {
     if is_own {
         return text::part(text::part(own, b'\n', i), b',', 1);
+    }
+    if i < index.len() {
+        let a = index[i] as usize % 65536;
+        let e = text::find(book, a, b'\n');
+        return &book[a..e];
     }
     text::part(book, b'\n', i)
 }

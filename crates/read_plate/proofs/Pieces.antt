@@ -3,9 +3,8 @@ use Prim.Native.Nat.{ℕ, zero, suc, _+_, _-_, _≤_, _<_}
 use mathlib.Core.Path.{_≡_, refl, sym, ap, _∙_}
 use mathlib.Core.List.{List, [], _∷_, _++_, map, append-assoc}
 use native.Mathlib.Omega.{arith}
-use native.Mathlib.Numerals.{add-one, sub-one}
-use lib.ListN.{length, drop, getD, drop-of-length-le}
-use lib.Seq.{drop-cons}
+use native.Mathlib.Numerals.{sub-one}
+use lib.ListN.{length}
 use Rattle.causes.specs.declared.Cause.{Cause}
 use Rattle.text.specs.Parts.{join, comma, LF}
 use Rattle.output.specs.Pour.{poured}
@@ -46,25 +45,19 @@ module _ {A : Type 0} {one : A → List ℕ} {write : List A → List ℕ} (w : 
   pub pieces-end : {xs : List A} {at : ℕ} {out : List ℕ} → xs ≡ [] → at ≤ 18446744073709551615 → (at, out) ≡ poured at (write xs) out
   pieces-end {xs} {at} {out} e h = none at out h ∙ ap (λ (b : List ℕ). poured at b out) (sym (ap write e ∙ w .nothing))
 
-  -- values of a list, from a place of it on
-  module _ (ts : List A) where
-    -- those from place i on are left, and are written from a place on
-    pub record LeftFrom (i at : ℕ) (out : List ℕ) (whole : ℕ × List ℕ) : Type 0 where
-      pub written : poured at (write (drop i ts)) out ≡ whole
-      pub counted : at ≤ 18446744073709551615
+  -- values of a list: these are left, and are written from a place on
+  pub record LeftOf (rest : List A) (at : ℕ) (out : List ℕ) (whole : ℕ × List ℕ) : Type 0 where
+    pub written : poured at (write rest) out ≡ whole
+    pub counted : at ≤ 18446744073709551615
 
-    pub from-first : (at : ℕ) (out : List ℕ) → at ≤ 18446744073709551615 → LeftFrom 0 at out (poured at (write ts) out)
-    from-first at out h = record { written = refl; counted = h }
+  module _ {xs : List A} {at : ℕ} {out : List ℕ} {whole : ℕ × List ℕ} (l : LeftOf xs at out whole) where
+    pub of-next : {x : A} {rest : List A} {n : ℕ} {mid : List ℕ} → xs ≡ x ∷ rest → (n, mid) ≡ poured at (one x) out
+        → length out < 9223372036854775808 → LeftOf rest n mid whole
+    of-next {x} {rest} {n} {mid} e f k =
+        record { written = pieces-next at out e f k ∙ l .written; counted = omega (arith, ended at (one x) out n mid f) }
 
-    module _ {i at : ℕ} {out : List ℕ} {whole : ℕ × List ℕ} (l : LeftFrom i at out whole) where
-      pub from-next : (x : A) {y : A} {n : ℕ} {mid : List ℕ} → y ≡ getD ts i x → (n, mid) ≡ poured at (one y) out → i < length ts
-          → length out < 9223372036854775808 → LeftFrom (i + 1) n mid whole
-      from-next x {y} {n} {mid} e f h k =
-          let split : drop i ts ≡ y ∷ drop (i + 1) ts = rw (add-one, e) (drop-cons ts i x h) in
-          record { written = pieces-next at out split f k ∙ l .written; counted = omega (arith, ended at (one y) out n mid f) }
-
-      pub from-end : length ts ≤ i → (at, out) ≡ whole
-      from-end h = pieces-end (drop-of-length-le ts {i = i} h) (l .counted) ∙ l .written
+    pub of-end : xs ≡ [] → (at, out) ≡ whole
+    of-end e = pieces-end e (l .counted) ∙ l .written
 
   -- values that are there on a plate
   module _ (r : ℕ → Reader A) (plate : List ℕ) where

@@ -15,7 +15,7 @@ use Rattle.text.specs.Parts.{join, comma, LF}
 use Rattle.phrases.specs.declared.Book.the-variants.{Holds as holdsPhrases, Bad}
 use Rattle.phrases.specs.Book.{bookPhrases}
 use Rattle.phrases.specs.Lookup.{bookTexts, bookAnswer, ownTexts, phrasesIn}
-use Rattle.phrases.proofs.Answers.{book-is}
+use Rattle.phrases.proofs.Answers.{book-is, book-count-is}
 use Rattle.phrases.proofs.BookValid.{book-ok}
 use Rattle.plate.specs.Program.{Program}
 use Rattle.plate.specs.Plate.{plateProgram}
@@ -25,6 +25,7 @@ use Rattle.reader.specs.declared.PlateRead.the-variants.{Holds, Refused}
 use Rattle.reader.specs.Holding.{instructionsAt, programAt, programRead}
 use Rattle.listing.specs.Listing.{instructionFields, phraseFields, programFields, linesText, listingText}
 use Rattle.listing.specs.Calls.{readListing, readPlateCall}
+use Rattle.listing.proofs.RoundTrips.{Bytes, listing-most}
 
 -- ---- the own phrases' lines, and then the instructions' lines
 
@@ -61,10 +62,23 @@ module _ (new : List ℕ) (n : ℕ) (x b : List ℕ) (h : (n, x) ≡ poured 0 ne
       let bytes : o ≡ new ++ drop (length new) out = stored 0 new out m o k ∙ pour-fits new out (omega arith) in
       rw (le-leb (length new) (length out) (omega arith)) (λ i. (wrote (size i), bytes i))
 
+-- a buffer that holds the longest listing needs no first pass
+pub straight : (new : List ℕ) (n : ℕ) (o out : List ℕ) → (n, o) ≡ poured 0 new out → length new ≤ 327680 → 327680 ≤ length out
+    → length out < 9223372036854775808 → (wrote n, o) ≡ lent (made (output new)) out
+straight new n o out k l h f = whole new n o out k n o out k (omega (arith, ended 0 new out n o k)) f
+
 -- ---- the book and the plate
 
-pub few-phrases : (book : List ℕ) (n : ℕ) → bookAnswer (bookPhrases book) ≡ holdsPhrases n → length (bookTexts book) ≤ 256
-few-phrases book n e = book-ok book (bookTexts book) (book-is book e) .1
+pub few-phrases : (book : List ℕ) (n : ℕ) → bookAnswer (bookPhrases book) ≡ holdsPhrases n → n ≤ 256
+few-phrases book n e = omega (arith, book-count-is book e, book-ok book (bookTexts book) (book-is book e) .1)
+
+-- "at most 327,680 bytes, which no accepted plate exceeds"
+pub listing-fits : (plate book : List ℕ) (n : ℕ) → bookAnswer (bookPhrases book) ≡ holdsPhrases n → (own : List ℕ) (f : PlateRead)
+    → programRead plate book own f ≡ plateProgram (bookTexts book) plate → (c : Contents) → f ≡ Holds c → Bytes plate
+    → length (listingText (programAt plate book own c)) ≤ 327680
+unfolding readListing
+listing-fits plate book n e own f k c h bytes =
+    listing-most book plate (listingText (programAt plate book own c)) bytes (rw (book-is book e, ← k, h))
 
 -- what the call leaves
 module _ (plate book out : List ℕ) where

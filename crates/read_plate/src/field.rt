@@ -6,6 +6,7 @@ ghost use lib.ListN.{length};
 ghost use Rattle.text.specs.Parts.{comma};
 ghost use Rattle.text.specs.Number.{decimalℕ, decimal};
 ghost use Rattle.output.specs.Pour.{poured};
+ghost use Rattle.phrases.specs.Index.{Indexed};
 ghost use Rattle.instructions.specs.TextsAt.{textAt};
 ghost use Rattle.listing.specs.Listing.{operatorWord};
 use instructions::TextAt;
@@ -14,19 +15,24 @@ use transcript::Op;
 // The bytes of a text of a plate: its characters, or a part of the book or of the own phrases.
 fn put_text_at<'a>(
     plate: &[u8],
+    index: &'a [u32],
     book: &'a [u8],
     own: &'a [u8],
     text: TextAt,
     out: &mut [u8],
     at: usize,
 ) -> usize
-    requires { ⌜ length (now plate) ≤ 2953 ⌝ }
+    requires { ⌜ (length (now plate) ≤ 2953) × Indexed (now index) (now book) ⌝ }
     ensures { λ r. ⌜ (r, now (out .exit)) ≡ poured at (textAt (now (plate .entry)) (now (book .entry)) (now (own .entry)) text) (now (out .entry)) ⌝ }
 {
     match text {
         TextAt::Spelled { bit, size } => fields::put_characters(plate, bit, size, out, at),
         TextAt::Phrase { own: is_own, place } => {
-            text::put(out, at, phrases::phrase_text(book, own, is_own, place))
+            text::put(
+                out,
+                at,
+                phrases::phrase_text(index, book, own, is_own, place),
+            )
         }
     }
 }
@@ -34,17 +40,18 @@ fn put_text_at<'a>(
 // A text.
 pub fn put_text<'a>(
     plate: &[u8],
+    index: &'a [u32],
     book: &'a [u8],
     own: &'a [u8],
     text: TextAt,
     out: &mut [u8],
     at: usize,
 ) -> usize
-    requires { ⌜ length (now plate) ≤ 2953 ⌝ }
+    requires { ⌜ (length (now plate) ≤ 2953) × Indexed (now index) (now book) ⌝ }
     ensures { λ r. ⌜ (r, now (out .exit)) ≡ poured at (comma ∷ textAt (now (plate .entry)) (now (book .entry)) (now (own .entry)) text) (now (out .entry)) ⌝ }
 {
     let end = text::put_byte(out, at, b',');
-    put_text_at(plate, book, own, text, out, end)
+    put_text_at(plate, index, book, own, text, out, end)
 }
 
 // A register or a skip.

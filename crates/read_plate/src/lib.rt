@@ -1,8 +1,9 @@
 // The converter from a plate to its listing.
 // crate listing's specs/Listing.antt says which text a program is; its specs/Calls.antt what the call answers and leaves in the lent buffer.
-// The book is checked, then the whole plate, and a refusal leaves the buffer as it was. Then the own phrases and the instructions are written,
-// each line at the front of the buffer's unwritten tail; an instruction is read again from its bits, and a text is taken where it stands. The
-// listing is made twice: first on no buffer, to learn its length, and then on the lent one.
+// The book is checked, which makes its index, then the whole plate, and a refusal leaves the buffer as it was. Then the own phrases and the
+// instructions are written, each line at the front of the buffer's unwritten tail; an instruction is read again from its bits, and a text is
+// taken where it stands. A buffer that holds the longest listing is written at once; else the listing is made twice: first on no buffer, to
+// learn its length, and then on the lent one.
 mod field;
 mod line;
 mod options;
@@ -22,16 +23,19 @@ ghost use Rattle.listing.specs.Calls.{readPlateCall};
 pub fn read_plate(plate: &[u8], book: &[u8], listing: &mut [u8]) -> Written
     ensures { λ r. ⌜ (writtenAnswer r, now (listing .exit)) ≡ readPlateCall (now (plate .entry)) (now (book .entry)) (now (listing .entry)) ⌝ }
 {
-    match phrases::check_book(book) {
+    let mut index = [0u32; 256];
+    match phrases::check_book(book, &mut index) {
         Book::Bad(line) => Written::Refused(Refusal {
             cause: Cause::Book,
             place: line,
         }),
-        Book::Holds(_) => {
+        Book::Holds(n) => {
             let mut own = [0u8; 2304];
-            match reader::read_contents(plate, book, &mut own) {
+            match reader::read_contents(plate, &index[..n], book, &mut own) {
                 PlateRead::Refused(r) => Written::Refused(r),
-                PlateRead::Holds(contents) => passes::write(plate, book, &own, contents, listing),
+                PlateRead::Holds(contents) => {
+                    passes::write(plate, &index[..n], book, &own, contents, listing)
+                }
             }
         }
     }

@@ -7,6 +7,7 @@ ghost use Rattle.output.specs.Pour.{poured};
 ghost use Rattle.text.specs.Parts.{comma};
 ghost use Rattle.text.specs.Number.{decimalℕ};
 ghost use Rattle.phrases.specs.Lookup.{phrasesIn};
+ghost use Rattle.phrases.specs.Index.{Indexed};
 ghost use Rattle.plate.specs.Plate as reader;
 ghost use Rattle.transcript.specs.Statement.{input, inputs};
 ghost use Rattle.plate.specs.Program.{goto, ifSkip};
@@ -26,23 +27,25 @@ use transcript::Test;
 // A word and a text.
 fn put_text_line<'a>(
     plate: &[u8],
+    index: &'a [u32],
     book: &'a [u8],
     own: &'a [u8],
     word: &[u8],
     text: TextAt,
     tail: &mut [u8],
 ) -> usize
-    requires { ⌜ length (now plate) ≤ 2953 ⌝ }
+    requires { ⌜ (length (now plate) ≤ 2953) × Indexed (now index) (now book) ⌝ }
     ensures { λ r. ⌜ (r, now (tail .exit)) ≡ poured 0 (linesText ((now (word .entry) ∷ textAt (now (plate .entry)) (now (book .entry)) (now (own .entry)) text ∷ []) ∷ [])) (now (tail .entry)) ⌝ }
 {
     let end = text::put(tail, 0, word);
-    let end = put_text(plate, book, own, text, tail, end);
+    let end = put_text(plate, index, book, own, text, tail, end);
     text::put_byte(tail, end, b'\n')
 }
 
 // The front of a question's line: a word, a register and a text.
 fn put_question<'a>(
     plate: &[u8],
+    index: &'a [u32],
     book: &'a [u8],
     own: &'a [u8],
     word: &[u8],
@@ -50,33 +53,35 @@ fn put_question<'a>(
     text: TextAt,
     tail: &mut [u8],
 ) -> usize
-    requires { ⌜ (length (now plate) ≤ 2953) × (register < 32) ⌝ }
+    requires { ⌜ (length (now plate) ≤ 2953) × Indexed (now index) (now book) × (register < 32) ⌝ }
     ensures { λ r. ⌜ (r, now (tail .exit)) ≡ poured 0 ((now (word .entry) ++ (comma ∷ decimalℕ register)) ++ (comma ∷ textAt (now (plate .entry)) (now (book .entry)) (now (own .entry)) text)) (now (tail .entry)) ⌝ }
 {
     let end = text::put(tail, 0, word);
     let end = put_natural(tail, end, register);
-    put_text(plate, book, own, text, tail, end)
+    put_text(plate, index, book, own, text, tail, end)
 }
 
 // `input,R,TEXT`.
 fn put_input<'a>(
     plate: &[u8],
+    index: &'a [u32],
     book: &'a [u8],
     own: &'a [u8],
     register: usize,
     text: TextAt,
     tail: &mut [u8],
 ) -> usize
-    requires { ⌜ (length (now plate) ≤ 2953) × (register < 32) ⌝ }
+    requires { ⌜ (length (now plate) ≤ 2953) × Indexed (now index) (now book) × (register < 32) ⌝ }
     ensures { λ r. ⌜ (r, now (tail .exit)) ≡ poured 0 (linesText (statementFields (input register (textAt (now (plate .entry)) (now (book .entry)) (now (own .entry)) text)) ∷ [])) (now (tail .entry)) ⌝ }
 {
-    let end = put_question(plate, book, own, b"input", register, text, tail);
+    let end = put_question(plate, index, book, own, b"input", register, text, tail);
     text::put_byte(tail, end, b'\n')
 }
 
 // `inputs,R,TEXT,OPTION,..`.
 fn put_inputs<'a>(
     plate: &[u8],
+    index: &'a [u32],
     book: &'a [u8],
     own: &'a [u8],
     count: usize,
@@ -86,11 +91,11 @@ fn put_inputs<'a>(
     bit: usize,
     tail: &mut [u8],
 ) -> usize
-    requires { ⌜ Lent (now plate) (now book) (now own) count × (register < 32) × There (λ j. reader.text (phrasesIn (now book) (now own) count)) (now plate) options bit (optionsAt (now plate) (phrasesIn (now book) (now own) count) options bit) ⌝ }
+    requires { ⌜ Lent (now plate) (now index) (now book) (now own) count × (register < 32) × There (λ j. reader.text (phrasesIn (now book) (now own) count)) (now plate) options bit (optionsAt (now plate) (phrasesIn (now book) (now own) count) options bit) ⌝ }
     ensures { λ r. ⌜ (r, now (tail .exit)) ≡ poured 0 (linesText (statementFields (inputs register (textAt (now (plate .entry)) (now (book .entry)) (now (own .entry)) text) (optionsAt (now (plate .entry)) (phrasesIn (now (book .entry)) (now (own .entry)) count) options bit)) ∷ [])) (now (tail .entry)) ⌝ }
 {
-    let end = put_question(plate, book, own, b"inputs", register, text, tail);
-    let end = put_options(plate, book, own, count, options, bit, tail, end);
+    let end = put_question(plate, index, book, own, b"inputs", register, text, tail);
+    let end = put_options(plate, index, book, own, count, options, bit, tail, end);
     text::put_byte(tail, end, b'\n')
 }
 
@@ -99,8 +104,8 @@ fn put_goto(skip: usize, tail: &mut [u8]) -> usize
     requires { ⌜ skip < 512 ⌝ }
     ensures { λ r. ⌜ (r, now (tail .exit)) ≡ poured 0 (linesText (instructionFields (goto skip) ∷ [])) (now (tail .entry)) ⌝ }
 {
-    let end = text::put(tail, 0, b"goto");
-    let end = put_natural(tail, end, skip);
+    let skip_at = text::put(tail, 0, b"goto");
+    let end = put_natural(tail, skip_at, skip);
     text::put_byte(tail, end, b'\n')
 }
 
@@ -123,27 +128,55 @@ fn put_if(test: Test, skip: usize, tail: &mut [u8]) -> usize
 // The line of an instruction.
 pub fn put_instruction<'a>(
     plate: &[u8],
+    index: &'a [u32],
     book: &'a [u8],
     own: &'a [u8],
     count: usize,
     i: InstructionAt,
     tail: &mut [u8],
 ) -> usize
-    requires { ⌜ Lent (now plate) (now book) (now own) count × Ready (now plate) (now book) (now own) count i ⌝ }
+    requires { ⌜ Lent (now plate) (now index) (now book) (now own) count × Ready (now plate) (now book) (now own) count i ⌝ }
     ensures { λ r. ⌜ (r, now (tail .exit)) ≡ poured 0 (linesText (instructionFields (instructionAt (now (plate .entry)) (now (book .entry)) (now (own .entry)) count i) ∷ [])) (now (tail .entry)) ⌝ }
 {
     match i {
         InstructionAt::Input { register, text } => {
-            put_input(plate, book, own, register, text, tail)
+            put_input(plate, index, book, own, register, text, tail)
         }
         InstructionAt::Inputs {
             register,
             text,
             options,
             bit,
-        } => put_inputs(plate, book, own, count, register, text, options, bit, tail),
-        InstructionAt::Print { text } => put_text_line(plate, book, own, b"print", text, tail),
-        InstructionAt::Printex { text } => put_text_line(plate, book, own, b"printex", text, tail),
+        } => put_inputs(
+            plate,
+            index,
+            book,
+            own,
+            count,
+            register,
+            text,
+            options,
+            bit,
+            tail,
+        ),
+        InstructionAt::Print { text } => put_text_line(
+            plate,
+            index,
+            book,
+            own,
+            b"print",
+            text,
+            tail,
+        ),
+        InstructionAt::Printex { text } => put_text_line(
+            plate,
+            index,
+            book,
+            own,
+            b"printex",
+            text,
+            tail,
+        ),
         InstructionAt::Goto { skip } => put_goto(skip, tail),
         InstructionAt::IfSkip { test, skip } => put_if(test, skip, tail),
     }

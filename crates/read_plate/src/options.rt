@@ -14,6 +14,7 @@ use instructions::read_text;
 // So many options from a bit on, each behind a comma. All are there, so none is refused.
 pub fn put_options<'a>(
     plate: &[u8],
+    index: &'a [u32],
     book: &'a [u8],
     own: &'a [u8],
     count: usize,
@@ -22,18 +23,18 @@ pub fn put_options<'a>(
     out: &mut [u8],
     at: usize,
 ) -> usize
-    requires { ⌜ Lent (now plate) (now book) (now own) count × There (λ j. reader.text (phrasesIn (now book) (now own) count)) (now plate) options bit (optionsAt (now plate) (phrasesIn (now book) (now own) count) options bit) ⌝ }
+    requires { ⌜ Lent (now plate) (now index) (now book) (now own) count × There (λ j. reader.text (phrasesIn (now book) (now own) count)) (now plate) options bit (optionsAt (now plate) (phrasesIn (now book) (now own) count) options bit) ⌝ }
     ensures { λ r. ⌜ (r, now (out .exit)) ≡ poured at (optionsBytes (optionsAt (now (plate .entry)) (phrasesIn (now (book .entry)) (now (own .entry)) count) options bit)) (now (out .entry)) ⌝ }
 {
     let mut end = at;
     let mut place = bit;
     let mut left = options;
     while 0 < left {
-        let option = read_text(plate, place, book, own, count);
+        let option = read_text(plate, place, index, book, own, count);
         let TextRead::Is(text, next) = option else {
             return end;
         };
-        end = put_text(plate, book, own, text, out, end);
+        end = put_text(plate, index, book, own, text, out, end);
         place = next;
         left -= 1;
     }

@@ -1,6 +1,8 @@
-// The whole listing, written in two passes.
+// The whole listing, written in one or two passes.
 ghost use mathlib.Core.Path.{_≡_};
 ghost use mathlib.Core.List.{[], _∷_, map};
+ghost use Prim.Native.Nat.{_≤_};
+ghost use lib.ListN.{length};
 ghost use Rattle.causes.specs.Answers.{writtenAnswer, made, output, lent};
 ghost use Rattle.output.specs.Pour.{poured};
 ghost use Rattle.phrases.specs.Lookup.{phrasesIn};
@@ -22,6 +24,7 @@ use reader::Contents;
 // The line of an instruction at a place of the listing: its tail from there on, which is empty past the buffer's end, takes it.
 fn line_at<'a>(
     plate: &[u8],
+    index: &'a [u32],
     book: &'a [u8],
     own: &'a [u8],
     count: usize,
@@ -29,17 +32,18 @@ fn line_at<'a>(
     out: &mut [u8],
     at: usize,
 ) -> usize
-    requires { ⌜ Lent (now plate) (now book) (now own) count × Ready (now plate) (now book) (now own) count i ⌝ }
+    requires { ⌜ Lent (now plate) (now index) (now book) (now own) count × Ready (now plate) (now book) (now own) count i ⌝ }
     ensures { λ r. ⌜ (r, now (out .exit)) ≡ poured at (linesText (instructionFields (instructionAt (now (plate .entry)) (now (book .entry)) (now (own .entry)) count i) ∷ [])) (now (out .entry)) ⌝ }
 {
     let from = output::least(at, out.len());
-    let n = put_instruction(plate, book, own, count, i, &mut out[from..]);
+    let n = put_instruction(plate, index, book, own, count, i, &mut out[from..]);
     output::sum(at, n)
 }
 
 // The lines of n instructions from a bit on. All are there, so none is refused.
 fn put_instructions<'a>(
     plate: &[u8],
+    index: &'a [u32],
     book: &'a [u8],
     own: &'a [u8],
     count: usize,
@@ -48,18 +52,18 @@ fn put_instructions<'a>(
     out: &mut [u8],
     at: usize,
 ) -> usize
-    requires { ⌜ Lent (now plate) (now book) (now own) count × There (instruction (phrasesIn (now book) (now own) count)) (now plate) n bit (instructionsAt (now plate) (phrasesIn (now book) (now own) count) n bit) ⌝ }
+    requires { ⌜ Lent (now plate) (now index) (now book) (now own) count × There (instruction (phrasesIn (now book) (now own) count)) (now plate) n bit (instructionsAt (now plate) (phrasesIn (now book) (now own) count) n bit) ⌝ }
     ensures { λ r. ⌜ (r, now (out .exit)) ≡ poured at (linesText (map instructionFields (instructionsAt (now (plate .entry)) (phrasesIn (now (book .entry)) (now (own .entry)) count) n bit))) (now (out .entry)) ⌝ }
 {
     let mut end = at;
     let mut place = bit;
     let mut left = n;
     while 0 < left {
-        let read = read_instruction(plate, place, left - 1, book, own, count);
+        let read = read_instruction(plate, place, left - 1, index, book, own, count);
         let InstructionRead::Is(i, next) = read else {
             return end;
         };
-        end = line_at(plate, book, own, count, i, out, end);
+        end = line_at(plate, index, book, own, count, i, out, end);
         place = next;
         left -= 1;
     }
@@ -69,39 +73,45 @@ fn put_instructions<'a>(
 // The listing of a plate's contents.
 fn produce<'a>(
     plate: &[u8],
+    index: &'a [u32],
     book: &'a [u8],
     own: &'a [u8],
     contents: Contents,
     out: &mut [u8],
 ) -> usize
-    requires { ⌜ Stands (now plate) (now book) (now own) contents ⌝ }
+    requires { ⌜ Stands (now plate) (now index) (now book) (now own) contents ⌝ }
     ensures { λ r. ⌜ (r, now (out .exit)) ≡ poured 0 (listingText (programAt (now (plate .entry)) (now (book .entry)) (now (own .entry)) contents)) (now (out .entry)) ⌝ }
 {
     let count = contents.own;
     let n = contents.instructions;
     let bit = contents.bit;
-    let end = put_phrases(book, own, count, out, 0);
-    put_instructions(plate, book, own, count, n, bit, out, end)
+    let end = put_phrases(own, count, out, 0);
+    put_instructions(plate, index, book, own, count, n, bit, out, end)
 }
 
-// First on no buffer, to learn the listing's length; then 11, or the listing is written.
+// Straight, where the buffer holds the longest listing; else first on no buffer, to learn the listing's length, and then 11, or the listing is
+// written.
 pub fn write<'a>(
     plate: &[u8],
+    index: &'a [u32],
     book: &'a [u8],
     own: &'a [u8],
     contents: Contents,
     listing: &mut [u8],
 ) -> Written
-    requires { ⌜ Stands (now plate) (now book) (now own) contents ⌝ }
+    requires { ⌜ Stands (now plate) (now index) (now book) (now own) contents × (length (listingText (programAt (now plate) (now book) (now own) contents)) ≤ 327680) ⌝ }
     ensures { λ r. ⌜ (writtenAnswer r, now (listing .exit)) ≡ lent (made (output (listingText (programAt (now (plate .entry)) (now (book .entry)) (now (own .entry)) contents)))) (now (listing .entry)) ⌝ }
 {
-    let length = produce(plate, book, own, contents, &mut []);
+    if 327680 <= listing.len() {
+        return Written::Done(produce(plate, index, book, own, contents, listing));
+    }
+    let length = produce(plate, index, book, own, contents, &mut []);
     if listing.len() < length {
         return Written::Refused(Refusal {
             cause: Cause::TooShort,
             place: 0,
         });
     }
-    produce(plate, book, own, contents, listing);
+    produce(plate, index, book, own, contents, listing);
     Written::Done(length)
 }

@@ -1,7 +1,6 @@
 // The lines of the own phrases, each written at the front of the listing's unwritten tail.
 ghost use mathlib.Core.Path.{_≡_};
 ghost use mathlib.Core.List.{[], _∷_, map};
-ghost use lib.ListN.{length};
 ghost use Rattle.output.specs.Pour.{poured};
 ghost use Rattle.phrases.specs.Lookup.{ownTexts};
 ghost use Rattle.listing.specs.Listing.{phraseFields, linesText};
@@ -24,22 +23,21 @@ fn phrase_at(text: &[u8], out: &mut [u8], at: usize) -> usize
     output::sum(at, n)
 }
 
-// The lines of all own phrases.
-pub fn put_phrases<'a>(
-    book: &'a [u8],
-    own: &'a [u8],
-    count: usize,
-    out: &mut [u8],
-    at: usize,
-) -> usize
-    requires { ⌜ length (ownTexts count (now own)) ≡ count ⌝ }
+// The lines of all own phrases, which are the first `count` lines of `own`.
+pub fn put_phrases(own: &[u8], count: usize, out: &mut [u8], at: usize) -> usize
     ensures { λ r. ⌜ (r, now (out .exit)) ≡ poured at (linesText (map phraseFields (ownTexts count (now (own .entry))))) (now (out .entry)) ⌝ }
 {
     let mut end = at;
-    let mut i = 0;
-    while i < count {
-        end = phrase_at(phrases::phrase_text(book, own, true, i), out, end);
-        i += 1;
+    let mut n = 0;
+    let mut a = 0;
+    while n < count {
+        if own.len() < a {
+            return end;
+        }
+        let e = text::find(own, a, b'\n');
+        end = phrase_at(text::part(&own[a..e], b',', 1), out, end);
+        a = e + 1;
+        n += 1;
     }
     end
 }

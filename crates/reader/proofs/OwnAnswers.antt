@@ -32,9 +32,9 @@ none-there own f h = subst (OwnThere own) (sym h) tt
 -- ---- whole plates
 
 -- a plate that is refused holds nothing
-pub none-stands : {plate book own : List ℕ} {s : Refusal} (c : Contents) → plates.Refused s ≡ plates.Holds c → Stands plate book own c
+pub none-stands : {plate index book own : List ℕ} {s : Refusal} (c : Contents) → plates.Refused s ≡ plates.Holds c → Stands plate index book own c
 none-stands c e = let z : _≡_ {A = ℕ} 0 1 = cc in absurd (omega arith)
 
-pub these-stand : {plate book own : List ℕ} {a : Contents} → Stands plate book own a → (c : Contents) → plates.Holds a ≡ plates.Holds c
-    → Stands plate book own c
-these-stand {plate} {book} {own} {a} s c e = let same : a ≡ c = cc in subst (Stands plate book own) same s
+pub these-stand : {plate index book own : List ℕ} {a : Contents} → Stands plate index book own a → (c : Contents) → plates.Holds a ≡ plates.Holds c
+    → Stands plate index book own c
+these-stand {plate} {index} {book} {own} {a} s c e = let same : a ≡ c = cc in subst (Stands plate index book own) same s

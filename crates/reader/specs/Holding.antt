@@ -37,8 +37,8 @@ programRead plate book own (plates.Holds c) = made (programAt plate book own c)
 programRead plate book own (plates.Refused r) = refused (r .cause) (r .place)
 
 -- contents whose own phrases and instructions are all there
-pub record Stands (plate book own : List ℕ) (c : Contents) : Type 0 where
-  pub lent : Lent plate book own (c .own)
+pub record Stands (plate index book own : List ℕ) (c : Contents) : Type 0 where
+  pub lent : Lent plate index book own (c .own)
   pub few : c .instructions ≤ 512
   pub whole : There (instruction (phrasesIn book own (c .own))) plate (c .instructions) (c .bit)
       (instructionsAt plate (phrasesIn book own (c .own)) (c .instructions) (c .bit))

@@ -7,6 +7,7 @@ ghost use lib.ListN.{length, drop};
 ghost use Rattle.output.specs.Pour.{poured};
 ghost use Rattle.bits.specs.Bits.{bytesBits};
 ghost use Rattle.phrases.specs.Lookup.{bookTexts};
+ghost use Rattle.phrases.specs.Index.{Indexed};
 ghost use Rattle.plate.specs.Plate.{ownCount, ownFrom};
 ghost use Rattle.fields.specs.Places.{placeAt, fieldRead, charactersIn};
 ghost use Rattle.reader.specs.Own.{phraseLine, ownPhrases, ownRead, OwnThere};
@@ -45,8 +46,15 @@ fn put_phrase(plate: &[u8], bit: usize, size: usize, own: &mut [u8], at: usize) 
 }
 
 // So many own phrases from a bit on.
-fn read_phrases(plate: &[u8], at: usize, count: usize, book: &[u8], own: &mut [u8]) -> Field
-    requires { ⌜ (length (now plate) ≤ 2953) × (count ≤ 32) × (2304 ≤ length (now own)) ⌝ }
+fn read_phrases(
+    plate: &[u8],
+    at: usize,
+    count: usize,
+    index: &[u32],
+    book: &[u8],
+    own: &mut [u8],
+) -> Field
+    requires { ⌜ (length (now plate) ≤ 2953) × Indexed (now index) (now book) × (count ≤ 32) × (2304 ≤ length (now own)) ⌝ }
     ensures { λ r. ⌜ ownRead (now (plate .entry)) (now (own .exit)) r ≡ ownFrom (bookTexts (now (book .entry))) [] count (placeAt (now (plate .entry)) at) ⌝ }
     ensures { λ r. ⌜ OwnThere (now (own .exit)) r ⌝ }
 {
@@ -54,7 +62,7 @@ fn read_phrases(plate: &[u8], at: usize, count: usize, book: &[u8], own: &mut [u
     let mut end = 0;
     let mut k = 0;
     while k < count {
-        let field = read_spelled(plate, bit, book, own, k);
+        let field = read_spelled(plate, bit, index, book, own, k);
         let Field::Is(size, next) = field else {
             return field;
         };
@@ -66,8 +74,8 @@ fn read_phrases(plate: &[u8], at: usize, count: usize, book: &[u8], own: &mut [u
 }
 
 // The own phrases of a plate, as lines at the front of `own`. What stands there behind the lines, or where the plate is refused, is open.
-pub fn read_own(plate: &[u8], book: &[u8], own: &mut [u8]) -> Field
-    requires { ⌜ (length (now plate) ≤ 2953) × (2304 ≤ length (now own)) ⌝ }
+pub fn read_own(plate: &[u8], index: &[u32], book: &[u8], own: &mut [u8]) -> Field
+    requires { ⌜ (length (now plate) ≤ 2953) × Indexed (now index) (now book) × (2304 ≤ length (now own)) ⌝ }
     ensures { λ r. ⌜ ownRead (now (plate .entry)) (now (own .exit)) r ≡ ownPhrases (bookTexts (now (book .entry))) (placeAt (now (plate .entry)) 0) ⌝ }
     ensures { λ r. ⌜ OwnThere (now (own .exit)) r ⌝ }
 {
@@ -75,5 +83,5 @@ pub fn read_own(plate: &[u8], book: &[u8], own: &mut [u8]) -> Field
     let Field::Is(count, next) = field else {
         return field;
     };
-    read_phrases(plate, next, count, book, own)
+    read_phrases(plate, next, count, index, book, own)
 }

@@ -14,17 +14,18 @@ pub fn pass_instructions(
     plate: &[u8],
     at: usize,
     n: usize,
+    index: &[u32],
     book: &[u8],
     own: &[u8],
     count: usize,
 ) -> Field
-    requires { ⌜ Lent (now plate) (now book) (now own) count ⌝ }
+    requires { ⌜ Lent (now plate) (now index) (now book) (now own) count ⌝ }
     ensures { λ r. ⌜ fieldRead (now (plate .entry)) r ≡ endWith n (many (instruction (phrasesIn (now (book .entry)) (now (own .entry)) count)) n (placeAt (now (plate .entry)) at)) ⌝ }
 {
     let mut bit = at;
     let mut left = n;
     while 0 < left {
-        let read = read_instruction(plate, bit, left - 1, book, own, count);
+        let read = read_instruction(plate, bit, left - 1, index, book, own, count);
         let InstructionRead::Is(_, next) = read else {
             return Field::Refused(read.refusal());
         };

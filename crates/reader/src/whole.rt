@@ -3,6 +3,7 @@ ghost use mathlib.Core.Path.{_≡_};
 ghost use Prim.Native.Nat.{_≤_};
 ghost use lib.ListN.{length};
 ghost use Rattle.phrases.specs.Lookup.{bookTexts, phrasesIn};
+ghost use Rattle.phrases.specs.Index.{Indexed};
 ghost use Rattle.plate.specs.Plate.{resultOf, plateProgram};
 ghost use Rattle.fields.specs.Places.{placeAt};
 ghost use Rattle.instructions.specs.TextsAt.{Lent};
@@ -21,16 +22,23 @@ use fields::Field;
 use fields::read_field;
 
 // What follows the own phrases: the instruction count, the instructions and the filling.
-fn read_rest(plate: &[u8], at: usize, book: &[u8], own: &[u8], count: usize) -> PlateRead
-    requires { ⌜ Lent (now plate) (now book) (now own) count ⌝ }
+fn read_rest(
+    plate: &[u8],
+    at: usize,
+    index: &[u32],
+    book: &[u8],
+    own: &[u8],
+    count: usize,
+) -> PlateRead
+    requires { ⌜ Lent (now plate) (now index) (now book) (now own) count ⌝ }
     ensures { λ r. ⌜ programRead (now (plate .entry)) (now (book .entry)) (now (own .entry)) r ≡ resultOf (restOf (phrasesIn (now (book .entry)) (now (own .entry)) count) (placeAt (now (plate .entry)) at)) ⌝ }
-    ensures { λ r. ⌜ ((c : contents.Contents) → r ≡ plates.Holds c → Stands (now (plate .entry)) (now (book .entry)) (now (own .entry)) c) ⌝ }
+    ensures { λ r. ⌜ ((c : contents.Contents) → r ≡ plates.Holds c → Stands (now (plate .entry)) (now (index .entry)) (now (book .entry)) (now (own .entry)) c) ⌝ }
 {
     let first = read_field(plate, at, 10, 512, Cause::Unused);
     let Field::Is(instructions, bit) = first else {
         return PlateRead::Refused(first.refusal());
     };
-    let second = pass_instructions(plate, bit, instructions, book, own, count);
+    let second = pass_instructions(plate, bit, instructions, index, book, own, count);
     let Field::Is(_, end) = second else {
         return PlateRead::Refused(second.refusal());
     };
@@ -49,10 +57,10 @@ fn read_rest(plate: &[u8], at: usize, book: &[u8], own: &[u8], count: usize) -> 
 
 // What a plate holds. Its own phrases are the first lines of `own` afterwards; what stands there behind them, or where the plate is
 // refused, is open: `own` is scratch of the caller, with room for 32 lines of 72 bytes.
-pub fn read_contents(plate: &[u8], book: &[u8], own: &mut [u8]) -> PlateRead
-    requires { ⌜ (length (bookTexts (now book)) ≤ 256) × (2304 ≤ length (now own)) ⌝ }
+pub fn read_contents(plate: &[u8], index: &[u32], book: &[u8], own: &mut [u8]) -> PlateRead
+    requires { ⌜ Indexed (now index) (now book) × (2304 ≤ length (now own)) ⌝ }
     ensures { λ r. ⌜ programRead (now (plate .entry)) (now (book .entry)) (now (own .exit)) r ≡ plateProgram (bookTexts (now (book .entry))) (now (plate .entry)) ⌝ }
-    ensures { λ r. ⌜ ((c : contents.Contents) → r ≡ plates.Holds c → Stands (now (plate .entry)) (now (book .entry)) (now (own .exit)) c) ⌝ }
+    ensures { λ r. ⌜ ((c : contents.Contents) → r ≡ plates.Holds c → Stands (now (plate .entry)) (now (index .entry)) (now (book .entry)) (now (own .exit)) c) ⌝ }
 {
     if 2953 < plate.len() {
         return PlateRead::Refused(Refusal {
@@ -60,9 +68,9 @@ pub fn read_contents(plate: &[u8], book: &[u8], own: &mut [u8]) -> PlateRead
             place: 0,
         });
     }
-    let first = read_own(plate, book, own);
+    let first = read_own(plate, index, book, own);
     let Field::Is(count, at) = first else {
         return PlateRead::Refused(first.refusal());
     };
-    read_rest(plate, at, book, own, count)
+    read_rest(plate, at, index, book, own, count)
 }

@@ -42,7 +42,7 @@ rules-meet plate book own count behind at next (Printex t) e v = text-fits plate
 rules-meet plate book own count behind at next (Goto skip) e v = tt
 rules-meet plate book own count behind at next (IfSkip test skip) e v = v .0 .0
 
-module _ (plate book own : List ℕ) (c : Contents) (a : Accepted plate book own c) (bytes : (i : ℕ) → getD plate i 0 < 256) where
+module _ (plate index book own : List ℕ) (c : Contents) (a : Accepted plate index book own c) (bytes : (i : ℕ) → getD plate i 0 < 256) where
   gives-texts : Gives (reader.text (phrasesIn book own (c .own))) [] (textBits (phrasesIn book own (c .own))) TextOk
   unfolding programAt
   gives-texts =

@@ -25,9 +25,6 @@ use Rattle.run.specs.Call.{ran, runCall}
 use Rattle.run.specs.Accepted.{Accepted}
 
 -- the phrases of a book that is checked are at most 256
-pub few-phrases : (book : List ℕ) (n : ℕ) → bookAnswer (bookPhrases book) ≡ holdsPhrases n → length (bookTexts book) ≤ 256
-few-phrases book n e = book-ok book (bookTexts book) (book-is book e) .1
-
 pub call-book : (plate book : List ℕ) (answers : List ℤ) (scratch : ℕ) (out : List ℕ) (line : ℕ) → bookAnswer (bookPhrases book) ≡ Bad line
     → (refusing Book line, out) ≡ runCall plate book answers scratch out
 unfolding runCall ran
@@ -39,8 +36,8 @@ module _ (plate book own : List ℕ) (n : ℕ) (e : bookAnswer (bookPhrases book
   is-read : (g : PlateRead) → f ≡ g → plateProgram (bookTexts book) plate ≡ programRead plate book own g
   is-read g k = sym h ∙ ap (programRead plate book own) k
 
-  pub accepted : (c : Contents) → f ≡ Holds c → ((d : Contents) → f ≡ Holds d → Stands plate book own d) → Accepted plate book own c
-  accepted c k stands = record { phrases = book-is book e; program = is-read (Holds c) k; stands = stands c k }
+  pub accepted : (index : List ℕ) (c : Contents) → f ≡ Holds c → ((d : Contents) → f ≡ Holds d → Stands plate index book own d) → Accepted plate index book own c
+  accepted index c k stands = record { phrases = book-is book e; program = is-read (Holds c) k; stands = stands c k }
 
   module _ (answers : List ℤ) (scratch : ℕ) (out : List ℕ) where
     pub call-plate : (r : Refusal) → f ≡ Refused r → (refusing (r .cause) (r .place), out) ≡ runCall plate book answers scratch out

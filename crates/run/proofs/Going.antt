@@ -45,22 +45,22 @@ run-natural (ifSkip test skip ∷ xs) zero t s = rw (holds-behind test t s) (run
 
 -- ---- what follows an instruction
 
-module _ (answers : List ℤ) (p : Performed) (o : List ℕ) (at over : ℕ) (x : Instruction) (s : State) (out : List ℕ)
-    (h : performed answers p o ≡ laid at (leftBy over x s) out) (xs ys : List Instruction) (split : ys ≡ x ∷ xs) where
+module _ (rs answers : List ℤ) (p : Performed) (o : List ℕ) (at over : ℕ) (x : Instruction) (s : State) (out : List ℕ)
+    (h : performed rs answers p o ≡ laid at (leftBy over x s) out) (xs ys : List Instruction) (split : ys ≡ x ∷ xs) where
   whole : andThen (leftBy over x s) (run xs (overBy over x s)) ≡ run ys over s
   whole = run-first over x xs s ∙ ap (λ (is : List Instruction). run is over s) (sym split)
 
   -- the run has ended
-  pub lay-stopped : (p .outcome ≡ End → ⊥) → performed answers p o ≡ laid at (run ys over s) out
+  pub lay-stopped : (p .outcome ≡ End → ⊥) → performed rs answers p o ≡ laid at (run ys over s) out
   lay-stopped n =
-      lay-ended answers p o at (leftBy over x s) (run xs (overBy over x s)) out h n ∙ ap (λ (e : Ending). laid at e out) whole
+      lay-ended rs answers p o at (leftBy over x s) (run xs (overBy over x s)) out h n ∙ ap (λ (e : Ending). laid at e out) whole
 
   -- it goes on
   pub lay-onward : (k : ℕ) → p .outcome ≡ End → k ≡ overBy over x s → length out < 9223372036854775808
-      → laid (p .end) (run xs k (machineState answers (p .machine))) o ≡ laid at (run ys over s) out
+      → laid (p .end) (run xs k (machineState rs answers (p .machine))) o ≡ laid at (run ys over s) out
   lay-onward k e z l =
-      ap (λ (n : ℕ). laid (p .end) (run xs n (machineState answers (p .machine))) o) z
-      ∙ lay-goes answers p o at (leftBy over x s) (run xs (overBy over x s)) out h e (run-natural xs (overBy over x s)) l
+      ap (λ (n : ℕ). laid (p .end) (run xs n (machineState rs answers (p .machine))) o) z
+      ∙ lay-goes rs answers p o at (leftBy over x s) (run xs (overBy over x s)) out h e (run-natural xs (overBy over x s)) l
       ∙ ap (λ (e : Ending). laid at e out) whole
 
 -- ---- the instructions, one by one
@@ -92,20 +92,20 @@ module _ (plate book own : List ℕ) (count : ℕ) where
           next-there (reader.instruction (phrasesIn book own count)) plate left bit t h (ap (instructionRead plate book own count) (sym k) ∙ e)
 
     -- "the run ends at n"
-    pub lay-done : (answers : List ℤ) (p : Performed) (over : ℕ) (out : List ℕ) → p .outcome ≡ End → left ≡ 0 → p .end ≤ 18446744073709551615
-        → performed answers p out ≡ laid (p .end) (run (instructionsFrom plate book own count left bit) over (machineState answers (p .machine))) out
+    pub lay-done : (rs answers : List ℤ) (p : Performed) (over : ℕ) (out : List ℕ) → p .outcome ≡ End → left ≡ 0 → p .end ≤ 18446744073709551615
+        → performed rs answers p out ≡ laid (p .end) (run (instructionsFrom plate book own count left bit) over (machineState rs answers (p .machine))) out
     unfolding run instructionsAt
-    lay-done answers p over out e z h =
+    lay-done rs answers p over out e z h =
         rw (none-left (reader.instruction (phrasesIn book own count)) plate left bit t z)
-        (lay-here answers (p .machine) (p .outcome) (p .end) out h
-        ∙ ap (λ (k : Outcome). laid (p .end) (endingBy k (machineState answers (p .machine))) out) e)
+        (lay-here rs answers (p .machine) (p .outcome) (p .end) out h
+        ∙ ap (λ (k : Outcome). laid (p .end) (endingBy k (machineState rs answers (p .machine))) out) e)
 
 -- ---- from the first instruction on
 
-pub lay-program : (plate book own : List ℕ) (c : Contents) (answers : List ℤ) (m : Machine) (at : ℕ) (out : List ℕ) (p : Laid)
-    → p ≡ laid at (run (instructionsFrom plate book own (c .own) (c .instructions) (c .bit)) 0 (machineState answers m)) out
-    → machineState answers m ≡ start answers
+pub lay-program : (plate book own : List ℕ) (c : Contents) (rs answers : List ℤ) (m : Machine) (at : ℕ) (out : List ℕ) (p : Laid)
+    → p ≡ laid at (run (instructionsFrom plate book own (c .own) (c .instructions) (c .bit)) 0 (machineState rs answers m)) out
+    → machineState rs answers m ≡ start answers
     → p ≡ laid at (run (programAt plate book own c .instructions) 0 (start answers)) out
 unfolding programAt
-lay-program plate book own c answers m at out p h e =
+lay-program plate book own c rs answers m at out p h e =
     h ∙ ap (λ (s : State). laid at (run (instructionsFrom plate book own (c .own) (c .instructions) (c .bit)) 0 s) out) e

@@ -11,10 +11,10 @@ use Rattle.reader.specs.declared.Contents.{Contents}
 use Rattle.reader.specs.Holding.{There, instructionsAt, programAt, Stands}
 
 -- the book and the plate are read, and these are the plate's contents
-pub record Accepted (plate book own : List ℕ) (c : Contents) : Type 0 where
+pub record Accepted (plate index book own : List ℕ) (c : Contents) : Type 0 where
   pub phrases : bookPhrases book ≡ made (bookTexts book)
   pub program : plateProgram (bookTexts book) plate ≡ made (programAt plate book own c)
-  pub stands : Stands plate book own c
+  pub stands : Stands plate index book own c
 
 -- n instructions from a bit on, of a plate with so many own phrases
 abbrev pub instructionsFrom : List ℕ → List ℕ → List ℕ → ℕ → ℕ → ℕ → List Instruction

@@ -37,23 +37,26 @@ pub fn run(
     ensures { λ r. ⌜ (ranAnswer r, now (transcript .exit)) ≡ runCall (now (plate .entry)) (now (book .entry)) (now (answers .entry)) (length (now (scratch .entry))) (now (transcript .entry)) ⌝ }
     ensures { λ r. ⌜ now (scratch .exit) ≡ now (scratch .entry) ⌝ }
 {
-    if let Book::Bad(line) = phrases::check_book(book) {
-        return Ran::Refused(Refusal {
+    let mut index = [0u32; 256];
+    match phrases::check_book(book, &mut index) {
+        Book::Bad(line) => Ran::Refused(Refusal {
             cause: Cause::Book,
             place: line,
-        });
-    }
-    let mut own = [0u8; 2304];
-    match reader::read_contents(plate, book, &mut own) {
-        PlateRead::Refused(r) => Ran::Refused(r),
-        PlateRead::Holds(c) => {
-            if scratch.len() < 512 {
-                return Ran::Refused(Refusal {
-                    cause: Cause::TooShort,
-                    place: 0,
-                });
+        }),
+        Book::Holds(n) => {
+            let mut own = [0u8; 2304];
+            match reader::read_contents(plate, &index[..n], book, &mut own) {
+                PlateRead::Refused(r) => Ran::Refused(r),
+                PlateRead::Holds(c) => {
+                    if scratch.len() < 512 {
+                        return Ran::Refused(Refusal {
+                            cause: Cause::TooShort,
+                            place: 0,
+                        });
+                    }
+                    passes::write(plate, &index[..n], book, &own, c, answers, transcript)
+                }
             }
-            passes::write(plate, book, &own, c, answers, transcript)
         }
     }
 }

@@ -16,7 +16,7 @@ ghost use Rattle.run.specs.Meets.{leftBy, overBy, Meets};
 
 // The run goes on, with so many instructions to be passed over.
 fn go_on(m: Machine, end: usize, over: usize) -> Met
-    ensures { λ r. ⌜ ((answers : List ℤ) (out : List ℕ) → performed answers (r .left) out ≡ laid end (goesOn (machineState answers m)) out) ⌝ }
+    ensures { λ r. ⌜ ((registers answers : List ℤ) (out : List ℕ) → performed registers answers (r .left) out ≡ laid end (goesOn (machineState registers answers m)) out) ⌝ }
     ensures { λ r. ⌜ (r .over ≡ over) × (r .left .machine .steps ≡ m .steps) ⌝ }
 {
     let left = Performed {
@@ -27,23 +27,26 @@ fn go_on(m: Machine, end: usize, over: usize) -> Met
     Met { left, over }
 }
 
-// An instruction, with so many still to be passed over.
+// An instruction, with so many still to be passed over, behind what has been performed.
 pub fn meet<'a>(
     plate: &[u8],
+    index: &'a [u32],
     book: &'a [u8],
     own: &'a [u8],
     count: usize,
     i: InstructionAt,
     over: usize,
     answers: &[i32],
+    registers: &mut [i32; 32],
     out: &mut [u8],
-    at: usize,
-    m: Machine,
+    begun: Performed,
 ) -> Met
-    requires { ⌜ Lent (now plate) (now book) (now own) count × Meets (now plate) (now book) (now own) count i × (m .steps < 18446744073709551615) ⌝ }
-    ensures { λ r. ⌜ performed (now (answers .entry)) (r .left) (now (out .exit)) ≡ laid at (leftBy over (instructionAt (now (plate .entry)) (now (book .entry)) (now (own .entry)) count i) (machineState (now (answers .entry)) m)) (now (out .entry)) ⌝ }
-    ensures { λ r. ⌜ (r .over ≡ overBy over (instructionAt (now (plate .entry)) (now (book .entry)) (now (own .entry)) count i) (machineState (now (answers .entry)) m)) × (r .left .machine .steps ≤ m .steps + 1) ⌝ }
+    requires { ⌜ Lent (now plate) (now index) (now book) (now own) count × Meets (now plate) (now book) (now own) count i × (begun .machine .steps < 18446744073709551615) ⌝ }
+    ensures { λ r. ⌜ performed (now (registers .exit)) (now (answers .entry)) (r .left) (now (out .exit)) ≡ laid (begun .end) (leftBy over (instructionAt (now (plate .entry)) (now (book .entry)) (now (own .entry)) count i) (machineState (now (registers .entry)) (now (answers .entry)) (begun .machine))) (now (out .entry)) ⌝ }
+    ensures { λ r. ⌜ (r .over ≡ overBy over (instructionAt (now (plate .entry)) (now (book .entry)) (now (own .entry)) count i) (machineState (now (registers .entry)) (now (answers .entry)) (begun .machine))) × (r .left .machine .steps ≤ begun .machine .steps + 1) ⌝ }
 {
+    let at = begun.end;
+    let m = begun.machine;
     if 0 < over {
         return go_on(m, at, over - 1);
     }
@@ -51,13 +54,25 @@ pub fn meet<'a>(
         InstructionAt::Goto { skip } => go_on(transcript::stepped(m), at, skip),
         InstructionAt::IfSkip { test, skip } => {
             let n = transcript::stepped(m);
-            if transcript::holds(m, test) {
+            if transcript::holds(registers, test) {
                 return go_on(n, at, 0);
             }
             go_on(n, at, skip)
         }
         _ => {
-            let left = perform(plate, book, own, count, i, answers, out, at, m);
+            let left = perform(
+                plate,
+                index,
+                book,
+                own,
+                count,
+                i,
+                answers,
+                registers,
+                out,
+                at,
+                m,
+            );
             Met { left, over: 0 }
         }
     }

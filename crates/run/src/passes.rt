@@ -9,6 +9,8 @@ use instructions::InstructionRead;
 use reader::Contents;
 use transcript::Performed;
 ghost use mathlib.Core.Path.{_≡_};
+ghost use mathlib.Core.List.{List};
+ghost use lib.IntN.{ℤ};
 ghost use Prim.Native.Nat.{_+_, _≤_};
 ghost use Rattle.causes.specs.Answers.{made, lent, ranAnswer};
 ghost use Rattle.causes.specs.declared.Outcome.the-variants.{End};
@@ -22,17 +24,19 @@ ghost use Rattle.run.specs.Accepted.{Accepted, instructionsFrom, Continu
 // The run of n instructions from a bit on, behind what has been performed.
 fn run_from<'a>(
     plate: &[u8],
+    index: &'a [u32],
     book: &'a [u8],
     own: &'a [u8],
     c: Contents,
     from: usize,
     n: usize,
     answers: &[i32],
+    registers: &mut [i32; 32],
     out: &mut [u8],
     begun: Performed,
 ) -> Performed
-    requires { ⌜ Accepted (now plate) (now book) (now own) c × Continues (now plate) (now book) (now own) (c .own) n from × (begun .outcome ≡ End) × (begun .machine .steps + n ≤ 18446744073709551615) ⌝ }
-    ensures { λ r. ⌜ performed (now (answers .entry)) r (now (out .exit)) ≡ laid (begun .end) (run (instructionsFrom (now (plate .entry)) (now (book .entry)) (now (own .entry)) (c .own) n from) 0 (machineState (now (answers .entry)) (begun .machine))) (now (out .entry)) ⌝ }
+    requires { ⌜ Accepted (now plate) (now index) (now book) (now own) c × Continues (now plate) (now book) (now own) (c .own) n from × (begun .outcome ≡ End) × (begun .machine .steps + n ≤ 18446744073709551615) ⌝ }
+    ensures { λ r. ⌜ performed (now (registers .exit)) (now (answers .entry)) r (now (out .exit)) ≡ laid (begun .end) (run (instructionsFrom (now (plate .entry)) (now (book .entry)) (now (own .entry)) (c .own) n from) 0 (machineState (now (registers .entry)) (now (answers .entry)) (begun .machine))) (now (out .entry)) ⌝ }
 {
     let count = c.own;
     let mut p = begun;
@@ -41,12 +45,23 @@ fn run_from<'a>(
     let mut over = 0;
     while 0 < left {
         // Never refused: the whole plate has been read.
-        let read = instructions::read_instruction(plate, bit, left - 1, book, own, count);
+        let read = instructions::read_instruction(plate, bit, left - 1, index, book, own, count);
         let InstructionRead::Is(i, next) = read else {
             return p;
         };
-        let m = p.machine;
-        let met = meet(plate, book, own, count, i, over, answers, out, p.end, m);
+        let met = meet(
+            plate,
+            index,
+            book,
+            own,
+            count,
+            i,
+            over,
+            answers,
+            registers,
+            out,
+            p,
+        );
         let q = met.left;
         let outcome = q.outcome;
         let Outcome::End = outcome else {
@@ -60,18 +75,20 @@ fn run_from<'a>(
     p
 }
 
-// The run of a plate's instructions: the buffer takes as much of the transcript as it has room for.
+// The run of a plate's instructions, with registers that are all 0 at first: the buffer takes as much of the transcript as it has room for.
 fn produce<'a>(
     plate: &[u8],
+    index: &'a [u32],
     book: &'a [u8],
     own: &'a [u8],
     c: Contents,
     answers: &[i32],
     out: &mut [u8],
 ) -> Performed
-    requires { ⌜ Accepted (now plate) (now book) (now own) c ⌝ }
-    ensures { λ r. ⌜ performed (now (answers .entry)) r (now (out .exit)) ≡ laid 0 (run (programAt (now (plate .entry)) (now (book .entry)) (now (own .entry)) c .instructions) 0 (start (now (answers .entry)))) (now (out .entry)) ⌝ }
+    requires { ⌜ Accepted (now plate) (now index) (now book) (now own) c ⌝ }
+    ensures { λ r. ⌜ ((registers : List ℤ) × (performed registers (now (answers .entry)) r (now (out .exit)) ≡ laid 0 (run (programAt (now (plate .entry)) (now (book .entry)) (now (own .entry)) c .instructions) 0 (start (now (answers .entry)))) (now (out .entry)))) ⌝ }
 {
+    let mut registers = [0i32; 32];
     let m = transcript::fresh();
     let begun = Performed {
         machine: m,
@@ -80,12 +97,14 @@ fn produce<'a>(
     };
     run_from(
         plate,
+        index,
         book,
         own,
         c,
         c.bit,
         c.instructions,
         answers,
+        &mut registers,
         out,
         begun,
     )
@@ -94,16 +113,17 @@ fn produce<'a>(
 // The run of an accepted plate: first on no buffer, to learn the transcript's length; then 11, or the transcript is written.
 pub fn write<'a>(
     plate: &[u8],
+    index: &'a [u32],
     book: &'a [u8],
     own: &'a [u8],
     c: Contents,
     answers: &[i32],
     transcript: &mut [u8],
 ) -> Ran
-    requires { ⌜ Accepted (now plate) (now book) (now own) c ⌝ }
+    requires { ⌜ Accepted (now plate) (now index) (now book) (now own) c ⌝ }
     ensures { λ r. ⌜ (ranAnswer r, now (transcript .exit)) ≡ lent (made (report (run (programAt (now (plate .entry)) (now (book .entry)) (now (own .entry)) c .instructions) 0 (start (now (answers .entry)))))) (now (transcript .entry)) ⌝ }
 {
-    let p = produce(plate, book, own, c, answers, &mut []);
+    let p = produce(plate, index, book, own, c, answers, &mut []);
     let length = p.end;
     if transcript.len() < length {
         return Ran::Refused(Refusal {
@@ -111,7 +131,7 @@ pub fn write<'a>(
             place: 0,
         });
     }
-    let p = produce(plate, book, own, c, answers, transcript);
+    let p = produce(plate, index, book, own, c, answers, transcript);
     let outcome = p.outcome;
     let m = p.machine;
     Ran::Done(Report {

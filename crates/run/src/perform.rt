@@ -19,6 +19,7 @@ ghost use Rattle.run.specs.Says.{statementOf, statementText, textsAt, Of
 // The options of inputs, so many from a bit on.
 fn put_options<'a>(
     plate: &[u8],
+    index: &'a [u32],
     book: &'a [u8],
     own: &'a [u8],
     count: usize,
@@ -27,7 +28,7 @@ fn put_options<'a>(
     out: &mut [u8],
     at: usize,
 ) -> usize
-    requires { ⌜ Lent (now plate) (now book) (now own) count × Offers (now plate) (now book) (now own) count options bit ⌝ }
+    requires { ⌜ Lent (now plate) (now index) (now book) (now own) count × Offers (now plate) (now book) (now own) count options bit ⌝ }
     ensures { λ r. ⌜ (r, now (out .exit)) ≡ poured at (optionsBytes (textsAt (now (plate .entry)) (now (book .entry)) (now (own .entry)) count options bit)) (now (out .entry)) ⌝ }
 {
     let mut end = at;
@@ -35,12 +36,12 @@ fn put_options<'a>(
     let mut left = options;
     while 0 < left {
         // Never refused: the whole plate has been read.
-        let read = instructions::read_text(plate, place, book, own, count);
+        let read = instructions::read_text(plate, place, index, book, own, count);
         let TextRead::Is(text, next) = read else {
             return end;
         };
         let characters = spell(plate, text);
-        end = transcript::put_option(out, end, text_of(book, own, &characters, text));
+        end = transcript::put_option(out, end, text_of(index, book, own, &characters, text));
         place = next;
         left -= 1;
     }
@@ -50,6 +51,7 @@ fn put_options<'a>(
 // The C line of a question with its options.
 fn offer<'a>(
     plate: &[u8],
+    index: &'a [u32],
     book: &'a [u8],
     own: &'a [u8],
     count: usize,
@@ -59,11 +61,11 @@ fn offer<'a>(
     out: &mut [u8],
     at: usize,
 ) -> usize
-    requires { ⌜ Lent (now plate) (now book) (now own) count × Offers (now plate) (now book) (now own) count options bit ⌝ }
+    requires { ⌜ Lent (now plate) (now index) (now book) (now own) count × Offers (now plate) (now book) (now own) count options bit ⌝ }
     ensures { λ r. ⌜ (r, now (out .exit)) ≡ poured at (lineBytes (offered (now (text .entry)) (textsAt (now (plate .entry)) (now (book .entry)) (now (own .entry)) count options bit))) (now (out .entry)) ⌝ }
 {
     let end = transcript::put_offer(out, at, text);
-    let end = put_options(plate, book, own, count, options, bit, out, end);
+    let end = put_options(plate, index, book, own, count, options, bit, out, end);
     transcript::put_end(out, end)
 }
 
@@ -91,25 +93,27 @@ fn statement_text(i: InstructionAt) -> TextAt
 // The statement of an instruction.
 pub fn perform<'a>(
     plate: &[u8],
+    index: &'a [u32],
     book: &'a [u8],
     own: &'a [u8],
     count: usize,
     i: InstructionAt,
     answers: &[i32],
+    registers: &mut [i32; 32],
     out: &mut [u8],
     at: usize,
     m: Machine,
 ) -> Performed
-    requires { ⌜ Lent (now plate) (now book) (now own) count × Says (now plate) (now book) (now own) count i × (m .steps < 18446744073709551615) ⌝ }
-    ensures { λ r. ⌜ performed (now (answers .entry)) r (now (out .exit)) ≡ laid at (statement.perform (statementOf (instructionAt (now (plate .entry)) (now (book .entry)) (now (own .entry)) count i)) (machineState (now (answers .entry)) m)) (now (out .entry)) ⌝ }
+    requires { ⌜ Lent (now plate) (now index) (now book) (now own) count × Says (now plate) (now book) (now own) count i × (m .steps < 18446744073709551615) ⌝ }
+    ensures { λ r. ⌜ performed (now (registers .exit)) (now (answers .entry)) r (now (out .exit)) ≡ laid at (statement.perform (statementOf (instructionAt (now (plate .entry)) (now (book .entry)) (now (own .entry)) count i)) (machineState (now (registers .entry)) (now (answers .entry)) m)) (now (out .entry)) ⌝ }
     ensures { λ r. ⌜ r .machine .steps ≡ m .steps + 1 ⌝ }
 {
     let place = statement_text(i);
     let characters = spell(plate, place);
-    let text = text_of(book, own, &characters, place);
+    let text = text_of(index, book, own, &characters, place);
     match i {
         InstructionAt::Input { register, text: _ } => {
-            transcript::ask(out, at, register, text, answers, m)
+            transcript::ask(out, at, registers, register, text, answers, m)
         }
         InstructionAt::Inputs {
             register,
@@ -117,8 +121,8 @@ pub fn perform<'a>(
             options,
             bit,
         } => {
-            let end = offer(plate, book, own, count, text, options, bit, out, at);
-            transcript::choose(out, end, register, options, answers, m)
+            let end = offer(plate, index, book, own, count, text, options, bit, out, at);
+            transcript::choose(out, end, registers, register, options, answers, m)
         }
         InstructionAt::Print { text: _ } => transcript::show(out, at, text, m),
         _ => transcript::rule(out, at, text, m),

@@ -2,6 +2,7 @@
 ghost use mathlib.Core.Path.{_≡_};
 ghost use mathlib.Core.List.{List};
 ghost use Prim.Native.Nat.{ℕ, _≤_};
+ghost use Rattle.phrases.specs.Index.{Indexed};
 ghost use lib.ListN.{length};
 ghost use Rattle.instructions.specs.TextsAt.{textAt};
 ghost use Rattle.run.specs.Texts.{Fits, textIn};
@@ -20,12 +21,24 @@ pub fn spell(plate: &[u8], text: TextAt) -> [u8; 64]
 }
 
 // The text: the characters, or a part of the book or of the own phrases.
-pub fn text_of<'a>(book: &'a [u8], own: &'a [u8], characters: &'a [u8], text: TextAt) -> &'a [u8]
-    requires { ⌜ Fits text × (64 ≤ length (now characters)) ⌝ }
+pub fn text_of<'a>(
+    index: &'a [u32],
+    book: &'a [u8],
+    own: &'a [u8],
+    characters: &'a [u8],
+    text: TextAt,
+) -> &'a [u8]
+    requires { ⌜ Indexed (now index) (now book) × Fits text × (64 ≤ length (now characters)) ⌝ }
     ensures { λ r. ⌜ now r ≡ textIn (now (book .entry)) (now (own .entry)) (now (characters .entry)) text ⌝ }
 {
     match text {
         TextAt::Spelled { bit: _, size } => &characters[..size],
-        TextAt::Phrase { own: is_own, place } => phrases::phrase_text(book, own, is_own, place),
+        TextAt::Phrase { own: is_own, place } => phrases::phrase_text(
+            index,
+            book,
+            own,
+            is_own,
+            place,
+        ),
     }
 }

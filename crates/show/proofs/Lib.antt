@@ -1,4 +1,3 @@
 pub mod RefusedLines
 pub mod Shown
 pub mod Most
-pub mod PairsWritten

@@ -32,7 +32,9 @@ use Rattle.text.specs.Parts.{comma, LF}
 use Rattle.text.specs.Number.{decimalℕ}
 use Rattle.text.proofs.Decimals.{decimalℕ-short}
 use Rattle.translate.specs.Call.{translation}
-use Rattle.show.specs.Show.{pairs, plateLine, refusedLine, shown}
+use Rattle.printed.specs.Pairs.{pairs}
+use Rattle.printed.specs.Lines.{plateLine, refusedLine}
+use Rattle.show.specs.Show.{shown}
 use Rattle.show.proofs.Shown.{Front, translation-refused, translation-made}
 
 pairs-length : (bs : List ℕ) → length (pairs bs) ≡ length bs + length bs

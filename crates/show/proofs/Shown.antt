@@ -31,7 +31,8 @@ use Rattle.guide.specs.Guide.{Guide, guideOf}
 use Rattle.translate.specs.Translation.{translateGuide}
 use Rattle.translate.specs.Call.{translation, translateCall}
 use Rattle.agreement.proofs.Valid.{guide-valid}
-use Rattle.show.specs.Show.{plateLine, refusedLine, accepted, shown}
+use Rattle.printed.specs.Lines.{plateLine, refusedLine}
+use Rattle.show.specs.Show.{accepted, shown}
 use Rattle.show.proofs.RefusedLines.{guide-refused}
 
 empty-book : bookPhrases [] ≡ made []

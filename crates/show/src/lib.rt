@@ -2,7 +2,6 @@
 // specs/Show.antt says the text.
 // The guide is translated into a plate of at most 2,953 bytes, which is then read back for its listing of at most 327,680 bytes. Both
 // buffers are local and long enough for every guide.
-mod pairs;
 mod print;
 
 use causes::Written;
@@ -16,7 +15,7 @@ pub fn show(guide: &[u8], out: &mut [u8]) -> usize
 {
     let mut plate = [0; 2953];
     match translate::translate(guide, b"", &mut plate) {
-        Written::Refused(r) => print::put_refused(out, r),
+        Written::Refused(r) => printed::put_refused(out, 0, r),
         Written::Done(length) => {
             let mut listing = [0; 327680];
             match read_plate::read_plate(&plate[..length], b"", &mut listing) {

@@ -46,30 +46,6 @@ text-size t h = in-range 1 (length t) 64 (and-parts (textSize t) (all textByte t
 
 -- ---- whether bytes are a text
 
--- a comma among them
-comma-found : (s : Text) → untilByte comma s < length s → all textByte s ≡ false
-unfolding untilByte all
-comma-found [] h = absurd (omega arith)
-comma-found (b ∷ s) h = go (allowed b) (eqb b comma) h (comma-found s)
-  where
-    go : (v t : Bool) → cond t 0 (suc (untilByte comma s)) < suc (length s)
-        → (untilByte comma s < length s → all textByte s ≡ false) → (v && not t && all textByte s) ≡ false
-    go false t l r = refl
-    go true true l r = refl
-    go true false l r = r (omega arith)
-
--- no comma among them
-comma-none : (s : Text) → length s ≤ untilByte comma s → all textByte s ≡ all allowed s
-unfolding untilByte all
-comma-none [] h = refl
-comma-none (b ∷ s) h = go (allowed b) (eqb b comma) h (comma-none s)
-  where
-    go : (v t : Bool) → suc (length s) ≤ cond t 0 (suc (untilByte comma s))
-        → (length s ≤ untilByte comma s → all textByte s ≡ all allowed s) → (v && not t && all textByte s) ≡ (v && all allowed s)
-    go v true l r = absurd (omega arith)
-    go false false l r = refl
-    go true false l r = r (omega arith)
-
 module _ (s : Text) where
   pub text-none : length s ≡ 0 → isText s ≡ false
   unfolding isText
@@ -82,14 +58,6 @@ module _ (s : Text) where
   pub text-sized : (length s ≡ 0 → ⊥) → length s ≤ 64 → isText s ≡ all textByte s
   unfolding isText
   text-sized h k = rw (le-leb 1 (length s) (omega arith), le-leb (length s) 64 k)
-
-  -- e is the place of the first comma, or the end
-  module _ (e : ℕ) (k : e ≡ 0 + untilByte comma s) where
-    pub text-comma : e < length s → all textByte s ≡ false
-    text-comma h = comma-found s (omega arith)
-
-    pub text-plain : length s ≤ e → all textByte s ≡ all allowed s
-    text-plain h = comma-none s (omega arith)
 
 -- ---- the bytes of a number
 

@@ -5,6 +5,8 @@ pub mod Decimals
 pub mod Constants
 pub mod Bytes
 pub mod Places
+pub mod Flags
 pub mod Reading
 pub mod Answers
 pub mod Signs
+pub mod Digits

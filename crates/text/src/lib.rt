@@ -13,6 +13,7 @@ pub use number::read_natural;
 pub use parts::count_parts;
 pub use parts::find;
 pub use parts::part;
+pub use parts::part_start;
 pub use parts::same;
 pub use texts::are_allowed;
 pub use texts::are_texts;

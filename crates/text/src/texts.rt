@@ -2,26 +2,61 @@
 ghost use mathlib.Core.Path.{_≡_};
 ghost use lib.ListN.{drop};
 ghost use Rattle.text.specs.Parts.{all, split, comma};
-ghost use Rattle.text.specs.Text.{allowed, isText};
+ghost use Rattle.text.specs.Text.{allowed, textByte, isText};
 use crate::parts::find;
 use crate::parts::part_start;
 
-// Whether every byte is allowed.
+// Whether a byte is allowed.
+fn is_allowed(b: u8) -> bool
+    ensures { λ r. ⌜ r ≡ allowed b ⌝ }
+{
+    if b < 32 {
+        return false;
+    }
+    if 126 < b {
+        return false;
+    }
+    true
+}
+
+// Whether every byte is allowed. The loop does not stop at a byte that is not, so that it can take many at a time.
 pub fn are_allowed(s: &[u8]) -> bool
     ensures { λ r. ⌜ r ≡ all allowed (now (s .entry)) ⌝ }
 {
+    let mut good = true;
     let mut i = 0;
     while i < s.len() {
-        let b = s[i];
-        if b < 32 {
-            return false;
-        }
-        if 126 < b {
-            return false;
+        if !is_allowed(s[i]) {
+            good = false;
         }
         i += 1;
     }
-    true
+    good
+}
+
+// Whether a byte is one of a text: allowed, and no comma.
+fn is_text_byte(b: u8) -> bool
+    ensures { λ r. ⌜ r ≡ textByte b ⌝ }
+{
+    if b == b',' {
+        return false;
+    }
+    is_allowed(b)
+}
+
+// Whether every byte is one of a text.
+fn are_text_bytes(s: &[u8]) -> bool
+    ensures { λ r. ⌜ r ≡ all textByte (now (s .entry)) ⌝ }
+{
+    let mut good = true;
+    let mut i = 0;
+    while i < s.len() {
+        if !is_text_byte(s[i]) {
+            good = false;
+        }
+        i += 1;
+    }
+    good
 }
 
 // Whether the bytes are a text: 1 to 64 allowed bytes with no comma.
@@ -34,10 +69,7 @@ pub fn is_text(s: &[u8]) -> bool
     if 64 < s.len() {
         return false;
     }
-    if find(s, 0, b',') < s.len() {
-        return false;
-    }
-    are_allowed(s)
+    are_text_bytes(s)
 }
 
 // Whether every field from field k on is a text.

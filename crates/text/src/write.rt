@@ -1,6 +1,8 @@
 // Writing bytes, texts and numbers at a place of a lent buffer, as far as it goes.
 ghost use mathlib.Core.Path.{_≡_};
 ghost use mathlib.Core.List.{[], _∷_};
+ghost use Prim.Native.Nat.{_≤_};
+ghost use lib.ListN.{length, drop};
 ghost use Rattle.output.specs.Pour.{poured};
 ghost use Rattle.text.specs.Number.{decimalℕ, decimal};
 
@@ -27,16 +29,28 @@ pub fn put(out: &mut [u8], at: usize, text: &[u8]) -> usize
     end
 }
 
-// A number from 0 on, the highest digit first.
+// The last digits of a number, from the place k of `digits` on.
+fn put_from(out: &mut [u8], at: usize, digits: &[u8], k: usize) -> usize
+    requires { ⌜ k ≤ length (now digits) ⌝ }
+    ensures { λ r. ⌜ (r, now (out .exit)) ≡ poured at (drop k (now (digits .entry))) (now (out .entry)) ⌝ }
+{
+    put(out, at, &digits[k..])
+}
+
+// A number from 0 on, the highest digit first. The digits are found from the last one on.
 pub fn put_natural(out: &mut [u8], at: usize, v: u32) -> usize
     ensures { λ r. ⌜ (r, now (out .exit)) ≡ poured at (decimalℕ v) (now (out .entry)) ⌝ }
 {
-    let digit = b'0' + (v % 10) as u8;
-    if v < 10 {
-        return put_byte(out, at, digit);
+    let mut digits = [0u8; 10];
+    let mut left = v;
+    let mut k = 9;
+    while 10 <= left {
+        digits[k] = b'0' + (left % 10) as u8;
+        left /= 10;
+        k -= 1;
     }
-    let end = put_natural(out, at, v / 10);
-    put_byte(out, end, digit)
+    digits[k] = b'0' + left as u8;
+    put_from(out, at, &digits, k)
 }
 
 // A number with its sign.

@@ -38,17 +38,17 @@ outcome-cleared (verdict s) = refl
 outcome-cleared (waits s) = refl
 outcome-cleared (outside s) = refl
 
-module _ (answers : List ℤ) (r : Performed) (o : List ℕ) (at : ℕ) (e : Ending) (out : List ℕ) (h : performed answers r o ≡ laid at e out) where
+module _ (rs answers : List ℤ) (r : Performed) (o : List ℕ) (at : ℕ) (e : Ending) (out : List ℕ) (h : performed rs answers r o ≡ laid at e out) where
   -- the outcome that the code answers is the ending's
   pub lay-outcome : r .outcome ≡ outcomeOf e
   unfolding performed laid
   lay-outcome =
-      sym (outcome-by (r .outcome) (machineState answers (r .machine))) ∙ ap (λ (l : Laid). outcomeOf (l .ending)) h ∙ outcome-cleared e
+      sym (outcome-by (r .outcome) (machineState rs answers (r .machine))) ∙ ap (λ (l : Laid). outcomeOf (l .ending)) h ∙ outcome-cleared e
 
   -- its machine is the ending's state
-  pub lay-machine : machineState answers (r .machine) ≡ stateOf (clearedEnding e)
+  pub lay-machine : machineState rs answers (r .machine) ≡ stateOf (clearedEnding e)
   unfolding performed laid
-  lay-machine = sym (state-by (r .outcome) (machineState answers (r .machine))) ∙ ap (λ (l : Laid). stateOf (l .ending)) h
+  lay-machine = sym (state-by (r .outcome) (machineState rs answers (r .machine))) ∙ ap (λ (l : Laid). stateOf (l .ending)) h
 
   -- the transcript's end and the buffer
   pub lay-bytes : (r .end, o) ≡ poured at (transcriptBytes (stateOf e .transcript)) out
@@ -56,24 +56,24 @@ module _ (answers : List ℤ) (r : Performed) (o : List ℕ) (at : ℕ) (e : End
   lay-bytes = λ i. (h i .end, h i .buffer)
 
 -- with no End, nothing follows
-pub lay-ended : (answers : List ℤ) (r : Performed) (o : List ℕ) (at : ℕ) (e : Ending) (f : State → Ending) (out : List ℕ)
-    → performed answers r o ≡ laid at e out → (r .outcome ≡ End → ⊥) → performed answers r o ≡ laid at (andThen e f) out
-lay-ended answers r o at (goesOn s) f out h k = absurd (k (lay-outcome answers r o at (goesOn s) out h))
-lay-ended answers r o at (verdict s) f out h k = h
-lay-ended answers r o at (waits s) f out h k = h
-lay-ended answers r o at (outside s) f out h k = h
+pub lay-ended : (rs answers : List ℤ) (r : Performed) (o : List ℕ) (at : ℕ) (e : Ending) (f : State → Ending) (out : List ℕ)
+    → performed rs answers r o ≡ laid at e out → (r .outcome ≡ End → ⊥) → performed rs answers r o ≡ laid at (andThen e f) out
+lay-ended rs answers r o at (goesOn s) f out h k = absurd (k (lay-outcome rs answers r o at (goesOn s) out h))
+lay-ended rs answers r o at (verdict s) f out h k = h
+lay-ended rs answers r o at (waits s) f out h k = h
+lay-ended rs answers r o at (outside s) f out h k = h
 
 -- with End, what follows goes on from the machine and from where the transcript ends
-pub lay-goes : (answers : List ℤ) (r : Performed) (o : List ℕ) (at : ℕ) (e : Ending) (f : State → Ending) (out : List ℕ)
-    → performed answers r o ≡ laid at e out → r .outcome ≡ End → Natural f → length out < 9223372036854775808
-    → laid (r .end) (f (machineState answers (r .machine))) o ≡ laid at (andThen e f) out
-lay-goes answers r o at (verdict s) f out h k n l = absurd (omega (arith, ap outcomeNumber (sym k ∙ lay-outcome answers r o at (verdict s) out h)))
-lay-goes answers r o at (waits s) f out h k n l = absurd (omega (arith, ap outcomeNumber (sym k ∙ lay-outcome answers r o at (waits s) out h)))
-lay-goes answers r o at (outside s) f out h k n l = absurd (omega (arith, ap outcomeNumber (sym k ∙ lay-outcome answers r o at (outside s) out h)))
-lay-goes answers r o at (goesOn s) f out h k n l =
+pub lay-goes : (rs answers : List ℤ) (r : Performed) (o : List ℕ) (at : ℕ) (e : Ending) (f : State → Ending) (out : List ℕ)
+    → performed rs answers r o ≡ laid at e out → r .outcome ≡ End → Natural f → length out < 9223372036854775808
+    → laid (r .end) (f (machineState rs answers (r .machine))) o ≡ laid at (andThen e f) out
+lay-goes rs answers r o at (verdict s) f out h k n l = absurd (omega (arith, ap outcomeNumber (sym k ∙ lay-outcome rs answers r o at (verdict s) out h)))
+lay-goes rs answers r o at (waits s) f out h k n l = absurd (omega (arith, ap outcomeNumber (sym k ∙ lay-outcome rs answers r o at (waits s) out h)))
+lay-goes rs answers r o at (outside s) f out h k n l = absurd (omega (arith, ap outcomeNumber (sym k ∙ lay-outcome rs answers r o at (outside s) out h)))
+lay-goes rs answers r o at (goesOn s) f out h k n l =
     let w : behindEnding (s .transcript) (f (cleared s)) ≡ f s = sym (n (s .transcript) (cleared s)) ∙ ap f (rw append-nil) in
-    ap (λ (u : State). laid (r .end) (f u) o) (lay-machine answers r o at (goesOn s) out h)
-    ∙ lay-behind (s .transcript) (f (cleared s)) at (r .end) out o (lay-bytes answers r o at (goesOn s) out h) l
+    ap (λ (u : State). laid (r .end) (f u) o) (lay-machine rs answers r o at (goesOn s) out h)
+    ∙ lay-behind (s .transcript) (f (cleared s)) at (r .end) out o (lay-bytes rs answers r o at (goesOn s) out h) l
     ∙ ap (λ (e : Ending). laid at e out) w
 
 -- an outcome other than End, as a match leaves it

@@ -64,18 +64,18 @@ lay-first l e at x out mid f h = lay-behind (l ∷ []) e at x out mid (f ∙ ap 
 
 -- ---- what the code answers
 
--- a machine, an outcome and the place behind what has been written
-pub lay-state : (answers : List ℤ) (n : Machine) (k : Outcome) (s : State) (at x : ℕ) (out o : List ℕ) → machineState answers n ≡ cleared s
+-- registers, a machine, an outcome and the place behind what has been written
+pub lay-state : (rs answers : List ℤ) (n : Machine) (k : Outcome) (s : State) (at x : ℕ) (out o : List ℕ) → machineState rs answers n ≡ cleared s
     → (x, o) ≡ poured at (transcriptBytes (s .transcript)) out
-    → performed answers (record { machine = n; outcome = k; end = x }) o ≡ laid at (endingBy k s) out
+    → performed rs answers (record { machine = n; outcome = k; end = x }) o ≡ laid at (endingBy k s) out
 unfolding performed laid poured
-lay-state answers n Verdict s at x out o c p = λ i. record { ending = verdict (c i); end = p i .0; buffer = p i .1 }
-lay-state answers n End s at x out o c p = λ i. record { ending = goesOn (c i); end = p i .0; buffer = p i .1 }
-lay-state answers n Waiting s at x out o c p = λ i. record { ending = waits (c i); end = p i .0; buffer = p i .1 }
-lay-state answers n Outside s at x out o c p = λ i. record { ending = outside (c i); end = p i .0; buffer = p i .1 }
+lay-state rs answers n Verdict s at x out o c p = λ i. record { ending = verdict (c i); end = p i .0; buffer = p i .1 }
+lay-state rs answers n End s at x out o c p = λ i. record { ending = goesOn (c i); end = p i .0; buffer = p i .1 }
+lay-state rs answers n Waiting s at x out o c p = λ i. record { ending = waits (c i); end = p i .0; buffer = p i .1 }
+lay-state rs answers n Outside s at x out o c p = λ i. record { ending = outside (c i); end = p i .0; buffer = p i .1 }
 
--- a machine, with nothing written
-pub lay-here : (answers : List ℤ) (m : Machine) (k : Outcome) (at : ℕ) (out : List ℕ) → at ≤ 18446744073709551615
-    → performed answers (record { machine = m; outcome = k; end = at }) out ≡ laid at (endingBy k (machineState answers m)) out
+-- registers and a machine, with nothing written
+pub lay-here : (rs answers : List ℤ) (m : Machine) (k : Outcome) (at : ℕ) (out : List ℕ) → at ≤ 18446744073709551615
+    → performed rs answers (record { machine = m; outcome = k; end = at }) out ≡ laid at (endingBy k (machineState rs answers m)) out
 unfolding machineState transcriptBytes
-lay-here answers m k at out h = lay-state answers m k (machineState answers m) at at out out refl (none at out h)
+lay-here rs answers m k at out h = lay-state rs answers m k (machineState rs answers m) at at out out refl (none at out h)

@@ -11,11 +11,11 @@ use Rattle.transcript.specs.declared.Performed.{Performed}
 use Rattle.transcript.specs.State.{State, transcriptBytes}
 use Rattle.transcript.specs.Perform.{Ending, goesOn, verdict, waits, outside, stateOf}
 
--- the state of a machine: the answers behind those taken are left, and nothing is in its transcript yet
-unfoldable pub machineState : List ℤ → Machine → State
-machineState answers m =
+-- the state of registers and a machine: the answers behind those taken are left, and nothing is in its transcript yet
+unfoldable pub machineState : List ℤ → List ℤ → Machine → State
+machineState registers answers m =
     record {
-      registers = m .registers;
+      registers = registers;
       left = drop (m .taken) answers;
       taken = m .taken;
       steps = m .steps;
@@ -56,7 +56,7 @@ laid at e buffer =
       buffer = pour at (transcriptBytes (stateOf e .transcript)) buffer;
     }
 
--- what the code answers, with the buffer
-unfoldable pub performed : List ℤ → Performed → List ℕ → Laid
-performed answers p buffer =
-    record { ending = endingBy (p .outcome) (machineState answers (p .machine)); end = p .end; buffer = buffer }
+-- what the code answers, with the registers and the buffer
+unfoldable pub performed : List ℤ → List ℤ → Performed → List ℕ → Laid
+performed registers answers p buffer =
+    record { ending = endingBy (p .outcome) (machineState registers answers (p .machine)); end = p .end; buffer = buffer }

@@ -1,5 +1,4 @@
 // The test of an if.
-use crate::Machine;
 use crate::Op;
 use crate::Test;
 ghost use mathlib.Core.Path.{_≡_};
@@ -10,6 +9,7 @@ ghost use lib.IntN.{ℤ};
 ghost use lib.Signed.{leZ};
 ghost use Rattle.transcript.specs.Statement as statement;
 ghost use Rattle.transcript.specs.Perform as perform;
+ghost use Rattle.transcript.specs.declared.Machine.{Machine};
 ghost use Rattle.transcript.specs.Machine.{machineState};
 
 // Whether two numbers are the same.
@@ -36,13 +36,13 @@ pub fn compares(op: Op, value: i32, constant: i32) -> bool
     }
 }
 
-// Whether the test of an if holds. The answers make no difference to it.
-pub fn holds(m: Machine, test: Test) -> bool
+// Whether the test of an if holds. Nothing but the registers makes a difference to it.
+pub fn holds(registers: &[i32; 32], test: Test) -> bool
     requires { ⌜ test .register < 32 ⌝ }
-    ensures { λ r. ⌜ ((answers : List ℤ) → r ≡ perform.holds test (machineState answers m)) ⌝ }
+    ensures { λ r. ⌜ ((answers : List ℤ) (m : Machine) → r ≡ perform.holds test (machineState (now (registers .entry)) answers m)) ⌝ }
 {
     let register = test.register;
-    let value = m.registers[register];
+    let value = registers[register];
     let op = test.op;
     compares(op, value, test.constant)
 }

@@ -1,7 +1,7 @@
 // What walk and run share: the machine, what one statement does to it, the test of an if, and the lines of the transcript.
-// A statement takes the machine by value and returns it, with the outcome and the place where the transcript ends. Its contract says
-// the whole answer and the whole buffer by `perform` (specs/Perform.antt): a line is stored as far as the buffer goes, and counted to
-// its end. A C line is written in pieces, one for each option, and `choose` then takes the answer.
+// A statement takes the machine by value and returns it, with the outcome and the place where the transcript ends; the registers are lent
+// to it. Its contract says the whole answer, the registers and the whole buffer by `perform` (specs/Perform.antt): a line is stored as far
+// as the buffer goes, and counted to its end. A C line is written in pieces, one for each option, and `choose` then takes the answer.
 // Any text, any answers and any buffer will do. A register is below 32, and one step more must still fit a 64-bit number.
 mod compare;
 mod lines;
@@ -41,9 +41,8 @@ pub struct Test {
     pub constant: i32,
 }
 
-// The state of a walk or run without its transcript, which stands in the lent buffer: registers, answers taken, steps.
+// The numbers of a walk or run: answers taken and steps. Its registers and its transcript stand in what is lent.
 pub struct Machine {
-    pub registers: [i32; 32],
     pub taken: usize,
     pub steps: usize,
 }

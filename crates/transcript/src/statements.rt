@@ -9,29 +9,25 @@ use causes::Outcome;
 ghost use mathlib.Core.Path.{_≡_};
 ghost use mathlib.Core.List.{List};
 ghost use Prim.Native.Nat.{ℕ, _+_, _<_, _≤_};
-ghost use lib.ListN.{length};
-ghost use lib.IntN.{ℤ};
+ghost use lib.ListN.{length, replicate};
+ghost use lib.IntN.{ℤ, pos};
 ghost use Rattle.transcript.specs.Statement.{input, print, printex};
 ghost use Rattle.transcript.specs.State.{start, step};
 ghost use Rattle.transcript.specs.Perform.{answer, isOption, perform};
 ghost use Rattle.transcript.specs.Perform as spec;
 ghost use Rattle.transcript.specs.Machine.{machineState, endingBy, laid, performed};
 
-// The machine at the start: every register 0, no answer taken, no step.
+// The machine at the start: no answer taken, no step. The registers that go with it are all 0.
 pub fn fresh() -> Machine
-    ensures { λ r. ⌜ ((answers : List ℤ) → machineState answers r ≡ start answers) ⌝ }
+    ensures { λ r. ⌜ ((answers : List ℤ) → machineState (replicate 32 (pos 0)) answers r ≡ start answers) ⌝ }
 {
-    Machine {
-        registers: [0; 32],
-        taken: 0,
-        steps: 0,
-    }
+    Machine { taken: 0, steps: 0 }
 }
 
 // One step more.
 pub fn stepped(m: Machine) -> Machine
     requires { ⌜ m .steps < 18446744073709551615 ⌝ }
-    ensures { λ r. ⌜ ((answers : List ℤ) → machineState answers r ≡ step (machineState answers m)) ⌝ }
+    ensures { λ r. ⌜ ((registers answers : List ℤ) → machineState registers answers r ≡ step (machineState registers answers m)) ⌝ }
     ensures { λ r. ⌜ (r .taken ≡ m .taken) × (r .steps ≡ m .steps + 1) ⌝ }
 {
     let mut next = m;
@@ -39,10 +35,10 @@ pub fn stepped(m: Machine) -> Machine
     next
 }
 
-// A statement left after its step, with no answer taken and nothing more written.
+// A statement left after its step, with no answer taken, no register set and nothing more written.
 fn leave(m: Machine, outcome: Outcome, end: usize) -> Performed
     requires { ⌜ m .steps < 18446744073709551615 ⌝ }
-    ensures { λ r. ⌜ ((answers : List ℤ) (out : List ℕ) → performed answers r out ≡ laid end (endingBy outcome (step (machineState answers m))) out) ⌝ }
+    ensures { λ r. ⌜ ((registers answers : List ℤ) (out : List ℕ) → performed registers answers r out ≡ laid end (endingBy outcome (step (machineState registers answers m))) out) ⌝ }
     ensures { λ r. ⌜ (r .machine .taken ≡ m .taken) × (r .machine .steps ≡ m .steps + 1) ⌝ }
 {
     let n = stepped(m);
@@ -54,16 +50,23 @@ fn leave(m: Machine, outcome: Outcome, end: usize) -> Performed
 }
 
 // The next answer, of which there is one, taken: one step, an A line, and the register's value.
-fn take_answer(out: &mut [u8], at: usize, register: usize, answers: &[i32], m: Machine) -> Performed
+fn take_answer(
+    out: &mut [u8],
+    at: usize,
+    registers: &mut [i32; 32],
+    register: usize,
+    answers: &[i32],
+    m: Machine,
+) -> Performed
     requires { ⌜ (register < 32) × (m .taken < length (now answers)) × (m .steps < 18446744073709551615) ⌝ }
-    ensures { λ r. ⌜ performed (now (answers .entry)) r (now (out .exit)) ≡ laid at (answer register (machineState (now (answers .entry)) m .left) (step (machineState (now (answers .entry)) m))) (now (out .entry)) ⌝ }
+    ensures { λ r. ⌜ performed (now (registers .exit)) (now (answers .entry)) r (now (out .exit)) ≡ laid at (answer register (machineState (now (registers .entry)) (now (answers .entry)) m .left) (step (machineState (now (registers .entry)) (now (answers .entry)) m))) (now (out .entry)) ⌝ }
     ensures { λ r. ⌜ (r .machine .taken ≡ m .taken + 1) × (r .machine .steps ≡ m .steps + 1) ⌝ }
 {
     let taken = m.taken;
     let v = answers[taken];
     let end = put_answered(out, at, v);
+    registers[register] = v;
     let mut n = m;
-    n.registers[register] = v;
     n.taken = taken + 1;
     n.steps = m.steps + 1;
     Performed {
@@ -87,18 +90,19 @@ fn is_option(v: i32, options: usize) -> bool
 pub fn ask(
     out: &mut [u8],
     at: usize,
+    registers: &mut [i32; 32],
     register: usize,
     text: &[u8],
     answers: &[i32],
     m: Machine,
 ) -> Performed
     requires { ⌜ (register < 32) × (m .steps < 18446744073709551615) ⌝ }
-    ensures { λ r. ⌜ performed (now (answers .entry)) r (now (out .exit)) ≡ laid at (perform (input register (now (text .entry))) (machineState (now (answers .entry)) m)) (now (out .entry)) ⌝ }
+    ensures { λ r. ⌜ performed (now (registers .exit)) (now (answers .entry)) r (now (out .exit)) ≡ laid at (perform (input register (now (text .entry))) (machineState (now (registers .entry)) (now (answers .entry)) m)) (now (out .entry)) ⌝ }
     ensures { λ r. ⌜ (r .machine .steps ≡ m .steps + 1) × (m .taken ≤ length (now (answers .entry)) → r .machine .taken ≤ length (now (answers .entry))) ⌝ }
 {
     let end = put_asked(out, at, text);
     if m.taken < answers.len() {
-        return take_answer(out, end, register, answers, m);
+        return take_answer(out, end, registers, register, answers, m);
     }
     leave(m, Outcome::Waiting, end)
 }
@@ -107,19 +111,20 @@ pub fn ask(
 pub fn choose(
     out: &mut [u8],
     at: usize,
+    registers: &mut [i32; 32],
     register: usize,
     options: usize,
     answers: &[i32],
     m: Machine,
 ) -> Performed
     requires { ⌜ (register < 32) × (m .steps < 18446744073709551615) ⌝ }
-    ensures { λ r. ⌜ performed (now (answers .entry)) r (now (out .exit)) ≡ laid at (spec.choose register options (machineState (now (answers .entry)) m .left) (step (machineState (now (answers .entry)) m))) (now (out .entry)) ⌝ }
+    ensures { λ r. ⌜ performed (now (registers .exit)) (now (answers .entry)) r (now (out .exit)) ≡ laid at (spec.choose register options (machineState (now (registers .entry)) (now (answers .entry)) m .left) (step (machineState (now (registers .entry)) (now (answers .entry)) m))) (now (out .entry)) ⌝ }
     ensures { λ r. ⌜ (r .machine .steps ≡ m .steps + 1) × (m .taken ≤ length (now (answers .entry)) → r .machine .taken ≤ length (now (answers .entry))) ⌝ }
 {
     let taken = m.taken;
     if taken < answers.len() {
         if is_option(answers[taken], options) {
-            return take_answer(out, at, register, answers, m);
+            return take_answer(out, at, registers, register, answers, m);
         }
         return leave(m, Outcome::Outside, at);
     }
@@ -129,7 +134,7 @@ pub fn choose(
 // print: a text shown.
 pub fn show(out: &mut [u8], at: usize, text: &[u8], m: Machine) -> Performed
     requires { ⌜ m .steps < 18446744073709551615 ⌝ }
-    ensures { λ r. ⌜ ((answers : List ℤ) → performed answers r (now (out .exit)) ≡ laid at (perform (print (now (text .entry))) (machineState answers m)) (now (out .entry))) ⌝ }
+    ensures { λ r. ⌜ ((registers answers : List ℤ) → performed registers answers r (now (out .exit)) ≡ laid at (perform (print (now (text .entry))) (machineState registers answers m)) (now (out .entry))) ⌝ }
     ensures { λ r. ⌜ (r .machine .steps ≡ m .steps + 1) × (r .machine .taken ≡ m .taken) ⌝ }
 {
     let end = put_shown(out, at, text);
@@ -139,7 +144,7 @@ pub fn show(out: &mut [u8], at: usize, text: &[u8], m: Machine) -> Performed
 // printex: a verdict, which ends.
 pub fn rule(out: &mut [u8], at: usize, text: &[u8], m: Machine) -> Performed
     requires { ⌜ m .steps < 18446744073709551615 ⌝ }
-    ensures { λ r. ⌜ ((answers : List ℤ) → performed answers r (now (out .exit)) ≡ laid at (perform (printex (now (text .entry))) (machineState answers m)) (now (out .entry))) ⌝ }
+    ensures { λ r. ⌜ ((registers answers : List ℤ) → performed registers answers r (now (out .exit)) ≡ laid at (perform (printex (now (text .entry))) (machineState registers answers m)) (now (out .entry))) ⌝ }
     ensures { λ r. ⌜ (r .machine .steps ≡ m .steps + 1) × (r .machine .taken ≡ m .taken) ⌝ }
 {
     let end = put_ruled(out, at, text);

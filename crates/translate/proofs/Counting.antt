@@ -1,11 +1,14 @@
--- The count of a block's lines at each place where the code's `block_length` and `statement_length` return, and at each turn of the loop.
+-- The count of a block's lines, and the table of skips, at each place where the code's `block_length` and `statement_length` return, and at
+-- each turn of the loop.
 use Prim.Native.Nat.{ℕ, zero, suc, _+_, _-_, _<_, _≤_}
 use native.Mathlib.Omega.{arith}
 use native.Mathlib.Numerals.{sub-one}
 use mathlib.Core.Path.{_≡_, refl, sym, ap, subst, _∙_}
-use mathlib.Core.List.{List}
+use mathlib.Core.List.{List, [], _∷_, _++_, append-assoc, append-nil}
 use mathlib.Core.Bool.{Bool, true, false}
-use lib.ListN.{length, drop}
+use lib.ListN.{length, drop, length-append}
+use Rattle.output.specs.Pour.{pour}
+use Rattle.output.proofs.Pour.{pour-length, pour-none, pour-then}
 use Rattle.lines.specs.Line.{Line}
 use Rattle.guide.specs.declared.Role.{Role}
 use Rattle.guide.specs.declared.Here.{Here}
@@ -20,6 +23,7 @@ use Rattle.translate.specs.Lengths.{
   atElse,
   ifBy,
   skipOver,
+  gotoOver,
   ifWith,
   statementLength,
   blockWith,
@@ -30,20 +34,20 @@ use Rattle.translate.specs.Lengths.{
 abbrev pub lengthOf : ℕ → ℕ → Length
 lengthOf k e = record { instructions = k; end = e }
 
--- nothing before it
-pub behind-none : (x : Extent) → behind 0 x ≡ x
-behind-none x = let c : 0 + x .instructions ≡ x .instructions = omega arith in λ i. record { instructions = c i; lines = x .lines }
+-- a block of no lines
+abbrev none : List Line → Extent
+none ls = record { skips = []; lines = ls }
 
 module _ (n : ℕ) (ls : List Line) where
-  count-none : n ≡ 0 → blockLength n ls ≡ record { instructions = 0; lines = ls }
+  count-none : n ≡ 0 → blockLength n ls ≡ none ls
   unfolding blockLength
   count-none e = rw e
 
-  pub count-ends : beginsBy (firstRole ls) ≡ false → blockLength n ls ≡ record { instructions = 0; lines = ls }
+  pub count-ends : beginsBy (firstRole ls) ≡ false → blockLength n ls ≡ none ls
   unfolding blockLength blockWith
   count-ends v = go n
     where
-      go : (n : ℕ) → blockLength n ls ≡ record { instructions = 0; lines = ls }
+      go : (n : ℕ) → blockLength n ls ≡ none ls
       go zero = refl
       go (suc n) = rw v
 
@@ -57,84 +61,133 @@ module _ (n : ℕ) (ls : List Line) where
       go zero h = absurd (omega arith)
       go (suc n) h = rw (sub-one, v)
 
-module _ (g : List ℕ) where
-  -- ---- the block: k instructions are counted before a, and x is the whole
+-- ---- the table: an entry is stored before those behind it
 
-  module _ (n k a : ℕ) (x : Extent) (left : behind k (blockLength n (linesAt g a)) ≡ x) where
-    stands : blockLength n (linesAt g a) ≡ record { instructions = 0; lines = linesAt g a } → a ≤ length g → Counts g (lengthOf k a) x
-    stands e w =
-        let c : k ≡ k + 0 = omega arith in
-        let same = ap (behind k) (sym e) ∙ left in
-        record { instructions = c ∙ ap (λ (y : Extent). y .instructions) same; lines = ap (λ (y : Extent). y .lines) same; within = w }
+before-others : (at k : ℕ) (ks old : List ℕ) → pour at (k ∷ []) (pour (suc at) ks old) ≡ pour at (k ∷ ks) old
+unfolding pour
+before-others at k ks [] = refl
+before-others zero k ks (b ∷ old) = ap (λ (l : List ℕ). k ∷ l) (pour-none zero (pour zero ks old))
+before-others (suc at) k ks (b ∷ old) = ap (λ (l : List ℕ). b ∷ l) (before-others at k ks old)
 
-    pub block-none : n ≤ 0 → a ≤ length g → Counts g (lengthOf k a) x
-    block-none h = let e : n ≡ 0 = omega arith in stands (count-none n (linesAt g a) e)
+stored : (at : ℕ) (ks old : List ℕ) {k m place : ℕ} {mid new : List ℕ} → place ≡ at + 1 → mid ≡ pour place ks old
+    → new ≡ pour at (k ∷ []) mid → k ≡ m → new ≡ pour at (m ∷ ks) old
+stored at ks old {k} {m} {place} e f g h =
+    let s : place ≡ suc at = omega arith in
+    rw h at (rw (f, s) at g ∙ before-others at k ks old)
 
-    pub block-ends : (h : Here) → Reads g a h → beginsBy (h .role) ≡ false → a ≤ length g → Counts g (lengthOf k a) x
-    block-ends h r v = stands (count-ends n (linesAt g a) (ap beginsBy (sym (r .role)) ∙ v))
+-- one part of the table behind the other
+both : (at : ℕ) (ks js old : List ℕ) {k : ℕ} {mid new : List ℕ} → k ≡ length ks → mid ≡ pour at ks old → new ≡ pour (at + k) js mid
+    → new ≡ pour at (ks ++ js) old
+both at ks js old e f g = rw (e, f) at g ∙ pour-then at ks js old
 
-    pub block-more : (h : Here) (s : Length) → 0 < n → Reads g a h → beginsBy (h .role) ≡ true
-        → Counts g s (statementLength (ifBy (h .role)) (blockLength (n - 1)) (linesAt g (h .next)))
-        → behind (k + s .instructions) (blockLength (n - 1) (linesAt g (s .end))) ≡ x
-    block-more h s l r v e =
+-- ---- the block: x is the whole, of which k instructions are counted, and y is left
+
+pub record Left (first : ℕ) (old : List ℕ) (k : ℕ) (table : List ℕ) (y x : Extent) : Type 0 where
+  pub before : List ℕ
+  pub count : k ≡ length before
+  pub whole : behind before y ≡ x
+  pub stands : table ≡ pour first before old
+
+pub begun : (first : ℕ) (old : List ℕ) (x : Extent) → Left first old 0 old x x
+begun first old x = record { before = []; count = refl; whole = refl; stands = sym (pour-none first old) }
+
+pub same-size : {first k : ℕ} {old table : List ℕ} {y x : Extent} → Left first old k table y x → length table ≡ length old
+same-size {first} {old = old} left = ap length (left .stands) ∙ pour-length first (left .before) old
+
+pub table-size : {g : List ℕ} {first : ℕ} {old : List ℕ} {r : Length} {x : Extent} {new : List ℕ} → Counts g first old r x new → length new ≡ length old
+table-size {first = first} {old} {x = x} e = ap length (e .table) ∙ pour-length first (x .skips) old
+
+module _ (g : List ℕ) (first : ℕ) (old : List ℕ) where
+  module _ (n k a : ℕ) (table : List ℕ) (x : Extent) (left : Left first old k table (blockLength n (linesAt g a)) x) where
+    ended : blockLength n (linesAt g a) ≡ none (linesAt g a) → a ≤ length g → Counts g first old (lengthOf k a) x table
+    ended e w =
+        let same = ap (behind (left .before)) (sym e) ∙ left .whole in
+        let skips : left .before ≡ x .skips = sym (append-nil (left .before)) ∙ ap (λ (y : Extent). y .skips) same in
+        record {
+          instructions = left .count ∙ ap length skips;
+          lines = ap (λ (y : Extent). y .lines) same;
+          within = w;
+          table = left .stands ∙ ap (λ (ks : List ℕ). pour first ks old) skips;
+        }
+
+    pub block-none : n ≤ 0 → a ≤ length g → Counts g first old (lengthOf k a) x table
+    block-none h = let e : n ≡ 0 = omega arith in ended (count-none n (linesAt g a) e)
+
+    pub block-ends : (h : Here) → Reads g a h → beginsBy (h .role) ≡ false → a ≤ length g → Counts g first old (lengthOf k a) x table
+    block-ends h r v = ended (count-ends n (linesAt g a) (ap beginsBy (sym (r .role)) ∙ v))
+
+    pub block-more : (h : Here) (s : Length) (new : List ℕ) → 0 < n → Reads g a h → beginsBy (h .role) ≡ true
+        → Counts g (first + k) table s (statementLength (ifBy (h .role)) (blockLength (n - 1)) (linesAt g (h .next))) new
+        → Left first old (k + s .instructions) new (blockLength (n - 1) (linesAt g (s .end))) x
+    block-more h s new l r v e =
         let f = blockLength (n - 1) in
         let y = statementLength (ifBy (h .role)) f (linesAt g (h .next)) in
-        let rest = f (y .lines) .instructions in
-        let c : k + y .instructions + rest ≡ k + (y .instructions + rest) = omega arith in
-        (λ i. behind (k + e .instructions i) (f (e .lines i)))
-        ∙ (λ i. record { instructions = c i; lines = f (y .lines) .lines })
-        ∙ (λ i. behind k (andThen (statementLength (ifBy (r .role i)) f (r .rest i)) f))
-        ∙ ap (behind k) (sym (count-more n (linesAt g a) l (ap beginsBy (sym (r .role)) ∙ v)))
-        ∙ left
+        let rest = f (y .lines) in
+        record {
+          before = left .before ++ y .skips;
+          count = omega (arith, left .count, e .instructions, length-append (left .before) (y .skips));
+          whole =
+              (λ i. behind (left .before ++ y .skips) (f (e .lines i)))
+              ∙ (λ i. record { skips = append-assoc (left .before) (y .skips) (rest .skips) i; lines = rest .lines })
+              ∙ (λ i. behind (left .before) (andThen (statementLength (ifBy (r .role i)) f (r .rest i)) f))
+              ∙ ap (behind (left .before)) (sym (count-more n (linesAt g a) l (ap beginsBy (sym (r .role)) ∙ v)))
+              ∙ left .whole;
+          stands = both first (left .before) (y .skips) old (left .count) (left .stands) (e .table);
+        }
 
-  -- ---- the skip of an if: t is its true block, and last the line where that ends
+-- ---- the skip of an if: t is its true block, and last the line where that ends
 
-  module _ (t : Length) (x : Extent) (e : Counts g t x) (last : Here) (r : Reads g (t .end) last) where
-    turns : (w : Bool) → elseBy (last .role) ≡ w → atElse (x .lines) ≡ w
-    turns w h = ap atElse (sym (e .lines)) ∙ ap elseBy (sym (r .role)) ∙ h
+module _ (g : List ℕ) (place : ℕ) (old mid : List ℕ) (t : Length) (x : Extent) (e : Counts g place old t x mid) (last : Here) (r : Reads g (t .end) last) where
+  turns : (w : Bool) → elseBy (last .role) ≡ w → atElse (x .lines) ≡ w
+  turns w h = ap atElse (sym (e .lines)) ∙ ap elseBy (sym (r .role)) ∙ h
 
-    skip-is : (w : Bool) → elseBy (last .role) ≡ w → skipOver x ≡ t .instructions + oneIf w
-    unfolding skipOver
-    skip-is w h = rw (turns w h) (ap (λ (n : ℕ). n + oneIf w) (sym (e .instructions)))
+  skip-is : (w : Bool) → elseBy (last .role) ≡ w → t .instructions + oneIf w ≡ skipOver x
+  unfolding skipOver
+  skip-is w h = rw (turns w h) (ap (λ (n : ℕ). n + oneIf w) (e .instructions))
 
-    pub skip-closed : elseBy (last .role) ≡ false → t .instructions ≡ skipOver x
-    skip-closed h = omega (arith, skip-is false h)
+  -- the lines behind its last one
+  lines-behind : linesAt g (last .next) ≡ drop 1 (x .lines)
+  lines-behind = r .rest ∙ ap (drop 1) (e .lines)
 
-    pub skip-turned : elseBy (last .role) ≡ true → t .instructions + 1 ≡ skipOver x
-    skip-turned h = sym (skip-is true h)
+-- ---- the statement whose line has the role, and the lines behind it
 
-    -- the lines behind its last one
-    lines-behind : linesAt g (last .next) ≡ drop 1 (x .lines)
-    lines-behind = r .rest ∙ ap (drop 1) (e .lines)
+module _ (g : List ℕ) (first : ℕ) (old : List ℕ) (role : Role) (f : Counter) (a : ℕ) where
+  pub plain-length : (new : List ℕ) → ifBy role ≡ false → a ≤ length g → new ≡ pour first (0 ∷ []) old
+      → Counts g first old (lengthOf 1 a) (statementLength (ifBy role) f (linesAt g a)) new
+  unfolding statementLength
+  plain-length new v w s = rw v (record { instructions = refl; lines = refl; within = w; table = s })
 
-  -- ---- the statement whose line has the role, and the lines behind it
-
-  module _ (role : Role) (f : Counter) (a : ℕ) where
-    pub plain-length : ifBy role ≡ false → a ≤ length g → Counts g (lengthOf 1 a) (statementLength (ifBy role) f (linesAt g a))
+  module _ (v : ifBy role ≡ true) (t : Length) (mid : List ℕ) (e : Counts g (first + 1) old t (f (linesAt g a)) mid) (last : Here) (r : Reads g (t .end) last) where
+    if-is : (w : Bool) → elseBy (last .role) ≡ w → ifWith w f (f (linesAt g a)) ≡ statementLength (ifBy role) f (linesAt g a)
     unfolding statementLength
-    plain-length v w = rw v (record { instructions = refl; lines = refl; within = w })
+    if-is w h = rw (v, turns g (first + 1) old mid t (f (linesAt g a)) e last r w h)
 
-    module _ (v : ifBy role ≡ true) (t : Length) (e : Counts g t (f (linesAt g a))) (last : Here) (r : Reads g (t .end) last) where
-      if-is : (w : Bool) → elseBy (last .role) ≡ w → ifWith w f (f (linesAt g a)) ≡ statementLength (ifBy role) f (linesAt g a)
-      unfolding statementLength
-      if-is w h = rw (v, turns t (f (linesAt g a)) e last r w h)
+    pub if-closed : elseBy (last .role) ≡ false → (new : List ℕ) → new ≡ pour first (t .instructions ∷ []) mid
+        → Counts g first old (lengthOf (t .instructions + 1) (last .next)) (statementLength (ifBy role) f (linesAt g a)) new
+    if-closed h new s =
+        let skip = skip-is g (first + 1) old mid t (f (linesAt g a)) e last r false h in
+        subst (λ (x : Extent). Counts g first old (lengthOf (t .instructions + 1) (last .next)) x new) (if-is false h) (record {
+          instructions = omega (arith, e .instructions);
+          lines = lines-behind g (first + 1) old mid t (f (linesAt g a)) e last r;
+          within = r .within;
+          table = stored first (f (linesAt g a) .skips) old refl (e .table) s (omega (arith, skip));
+        })
 
-      pub if-closed : elseBy (last .role) ≡ false
-          → Counts g (lengthOf (t .instructions + 1) (last .next)) (statementLength (ifBy role) f (linesAt g a))
-      if-closed h =
-          subst (Counts g (lengthOf (t .instructions + 1) (last .next))) (if-is false h) (record {
-            instructions = omega (arith, skip-closed t (f (linesAt g a)) e last r h);
-            lines = lines-behind t (f (linesAt g a)) e last r;
-            within = r .within;
-          })
-
-      -- o is its else block, and fi the line where that ends
-      pub if-turned : elseBy (last .role) ≡ true → (o : Length) → Counts g o (f (linesAt g (last .next))) → (fi : Here) → Reads g (o .end) fi
-          → Counts g (lengthOf (t .instructions + o .instructions + 2) (fi .next)) (statementLength (ifBy role) f (linesAt g a))
-      if-turned h o k fi q =
-          let other = subst (λ (ls : List Line). Counts g o (f ls)) (lines-behind t (f (linesAt g a)) e last r) k in
-          subst (Counts g (lengthOf (t .instructions + o .instructions + 2) (fi .next))) (if-is true h) (record {
-            instructions = omega (arith, skip-turned t (f (linesAt g a)) e last r h, other .instructions);
-            lines = lines-behind o _ other fi q;
-            within = q .within;
-          })
+    -- o is its else block, and fi the line where that ends
+    pub if-turned : elseBy (last .role) ≡ true → (o : Length) (below : List ℕ) → Counts g (first + 1 + t .instructions + 1) mid o (f (linesAt g (last .next))) below
+        → (fi : Here) → Reads g (o .end) fi → (inner new : List ℕ) → inner ≡ pour (first + 1 + t .instructions) (o .instructions ∷ []) below
+        → new ≡ pour first ((t .instructions + 1) ∷ []) inner
+        → Counts g first old (lengthOf (t .instructions + o .instructions + 2) (fi .next)) (statementLength (ifBy role) f (linesAt g a)) new
+    if-turned h o below k fi q inner new m s =
+        let x = f (linesAt g a) in
+        let place = first + 1 + t .instructions + 1 in
+        let other = subst (λ (ls : List Line). Counts g place mid o (f ls) below) (lines-behind g (first + 1) old mid t x e last r) k in
+        let y = f (drop 1 (x .lines)) in
+        let skip = skip-is g (first + 1) old mid t x e last r true h in
+        let goto = stored (first + 1 + t .instructions) (y .skips) mid refl (other .table) m (other .instructions) in
+        subst (λ (x : Extent). Counts g first old (lengthOf (t .instructions + o .instructions + 2) (fi .next)) x new) (if-is true h) (record {
+          instructions = omega (arith, e .instructions, other .instructions, length-append (x .skips) (gotoOver y));
+          lines = lines-behind g place mid below o _ other fi q;
+          within = q .within;
+          table = stored first (x .skips ++ gotoOver y) old refl (both (first + 1) (x .skips) (gotoOver y) old (e .instructions) (e .table) goto) s skip;
+        })

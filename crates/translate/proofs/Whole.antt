@@ -4,7 +4,7 @@ use native.Mathlib.Omega.{arith}
 use mathlib.Core.Path.{_≡_, refl, sym, ap, _∙_}
 use mathlib.Core.List.{List, _++_}
 use mathlib.Core.Bool.{Bool}
-use lib.ListN.{length}
+use lib.ListN.{length, replicate, length-replicate}
 use borrow.Author.Tests.{le-leb}
 use Rattle.causes.specs.Answers.{made, refused, Answer, refusing, lent}
 use Rattle.causes.specs.declared.Cause.the-variants.{Book}
@@ -36,20 +36,20 @@ use Rattle.guide.proofs.Accepted.{accepted-guide}
 use Rattle.guide.proofs.Counting.{few-lines}
 use Rattle.translate.specs.Translation.{translateBlock, translateGuide}
 use Rattle.translate.specs.Call.{translation, translateCall}
-use Rattle.translate.specs.LineCode.{linesCode, programIn}
+use Rattle.translate.specs.LineCode.{linesCode, skipTable, programIn}
 use Rattle.translate.proofs.Counted.{guide-counted}
 use Rattle.translate.proofs.Coded.{lines-code}
 
 -- ---- one pass: the front, the instructions and the filling make the plate's bits
 
-pub produced : (book g : List ℕ) (own n : ℕ) (old : List ℕ) {x y : ℕ} {front mid : List Bool} {last : ℕ × List Bool}
-    → n ≡ length (programIn g own .instructions)
+pub produced : (book g table : List ℕ) (own n : ℕ) (old : List ℕ) {x y : ℕ} {front mid : List Bool} {last : ℕ × List Bool}
+    → table ≡ skipTable g → n ≡ length (programIn g own .instructions)
     → (x, front) ≡ poured 0 (ownBits (ownTexts own g) ++ bitsOf 10 n) (bytesBits old)
-    → (y, mid) ≡ poured x (instructionsBits (phrasesIn book g own) (linesCode (length g + 2) (linesAt g 0))) front
+    → (y, mid) ≡ poured x (instructionsBits (phrasesIn book g own) (linesCode table (linesAt g 0))) front
     → last ≡ poured y (bitsOf ((8 - y % 8) % 8) 0) mid → length old ≤ 2953
     → last ≡ poured 0 (filled (programBits (bookTexts book) (programIn g own))) (bytesBits old)
 unfolding programIn programBits
-produced book g own n old k e f z h = filling _ old (rw k at (both 0 _ _ old e f h)) z h
+produced book g table own n old t k e f z h = filling _ old (rw (t, k) at (both 0 _ _ old e f h)) z h
 
 -- ---- the book and the guide
 
@@ -62,9 +62,6 @@ module _ (g book : List ℕ) where
       → checkedAnswer (seenIn aGuide (bookTexts book) g) ≡ Refused r → translation book g ≡ refused (r .cause) (r .place)
   unfolding translation guideOf
   guide-refused n r e f = rw (book-is book e, accept-is aGuide g (bookTexts book) f)
-
-  pub few-phrases : (n : ℕ) → bookAnswer (bookPhrases book) ≡ Holds n → length (bookTexts book) ≤ 65536
-  few-phrases n e = omega (arith, book-ok book (bookTexts book) (book-is book e) .1)
 
   -- an accepted guide
   module _ (own instructions : ℕ) (f : checkedAnswer (seenIn aGuide (bookTexts book) g) ≡ Fine own instructions) where
@@ -83,17 +80,29 @@ module _ (g book : List ℕ) where
         let k : Fine (length (s .own)) (s .instructions) ≡ Fine own instructions = rw (le-leb (length g) (mostBytes aGuide) size, e) at f in
         (cc, cc)
 
+    pub few-bytes : length g ≤ 16384
+    few-bytes = accepts aGuide (bookTexts book) g held accepted .size
+
     pub few-own : own ≤ 65536
     few-own =
         let h = accepts aGuide (bookTexts book) g held accepted in
         let k = seen-is (h .seen) (passes-check (bookTexts book) 1 nothingSeen (h .seen) (linesOf aGuide g) (h .passes)) in
         omega (arith, k .0, ap length (h .own), h .few)
 
+    pub own-there : length (ownTexts own g) ≡ own
+    own-there =
+        let h = accepts aGuide (bookTexts book) g held accepted in
+        let k = seen-is (h .seen) (passes-check (bookTexts book) 1 nothingSeen (h .seen) (linesOf aGuide g) (h .passes)) in
+        ap length (h .own) ∙ k .0
+
     program-is : translateGuide (record { own = ownTexts own g; block = blockOf (linesOf aGuide g) }) ≡ programIn g own
-    unfolding translateGuide programIn linesAt
+    unfolding translateGuide programIn skipTable linesAt
     program-is =
         let matched = accepted-guide (bookTexts book) g held accepted .matched in
-        let code = lines-code (length g + 2) (linesOf aGuide g) (blockOf (linesOf aGuide g)) matched (omega (arith, few-lines g)) in
+        let room = guide-counted (bookTexts book) g held accepted .room in
+        let zeros : List ℕ = replicate 512 0 in
+        let size : length zeros ≡ 512 = length-replicate {A = ℕ} 512 0 in
+        let code = lines-code (length g + 2) (linesOf aGuide g) (blockOf (linesOf aGuide g)) zeros matched (omega (arith, few-lines g)) (omega arith) in
         λ i. record { own = ownTexts own g; instructions = sym code i }
 
     -- the check counts the instructions

@@ -1,31 +1,33 @@
 -- Blocks counted on their lines, as the code goes: a block is a statement, and then the rest of the block.
 use Prim.Native.Nat.{ℕ, zero, suc, _+_, _≤_}
 use mathlib.Core.Path.{_≡_}
-use mathlib.Core.List.{List}
+use mathlib.Core.List.{List, [], _∷_, _++_}
 use mathlib.Core.Bool.{Bool, true, false}
 use lib.ListN.{length, drop}
+use Rattle.output.specs.Pour.{pour}
 use Rattle.lines.specs.Line.{Line}
 use Rattle.guide.specs.declared.Role.{Role}
 use Rattle.guide.specs.declared.Role.the-variants.{Statement, If, Else, Fi, Nothing}
 use Rattle.guide.specs.Lines.{firstRole, beginsBy, elseBy, linesAt}
 use Rattle.translate.specs.declared.lengths.Length.{Length}
 
--- the instructions of a block or a statement, and the lines behind it: a block's own `else` or `fi` is the first of them
+-- the skips of the instructions of a block or a statement, a number for each, which is 0 for a statement's; and the lines behind it: a
+-- block's own `else` or `fi` is the first of them
 pub record Extent : Type 0 where
-  pub instructions : ℕ
+  pub skips : List ℕ
   pub lines : List Line
 
 -- counts a block
 abbrev pub Counter : Type 0
 Counter = List Line → Extent
 
--- with k instructions before it
-abbrev pub behind : ℕ → Extent → Extent
-behind k x = record { instructions = k + x .instructions; lines = x .lines }
+-- with these skips before it
+abbrev pub behind : List ℕ → Extent → Extent
+behind ks x = record { skips = ks ++ x .skips; lines = x .lines }
 
 -- a statement, and then what f counts behind it
 abbrev pub andThen : Extent → Counter → Extent
-andThen x f = behind (x .instructions) (f (x .lines))
+andThen x f = behind (x .skips) (f (x .lines))
 
 -- 1 where there is an `else` line
 abbrev pub oneIf : Bool → ℕ
@@ -46,32 +48,38 @@ ifBy Nothing = false
 
 -- "the true block's instructions, plus one if there is an `else` line"
 unfoldable pub skipOver : Extent → ℕ
-skipOver t = t .instructions + oneIf (atElse (t .lines))
+skipOver t = length (t .skips) + oneIf (atElse (t .lines))
+
+-- "a goto whose skip is the else block's instructions", and that block
+abbrev pub gotoOver : Extent → List ℕ
+gotoOver o = length (o .skips) ∷ o .skips
 
 -- an if whose true block is t: with an `else` line, its else block too, which f counts
 abbrev pub ifWith : Bool → Counter → Extent → Extent
-ifWith true f t = record { instructions = suc (skipOver t + f (drop 1 (t .lines)) .instructions); lines = drop 1 (f (drop 1 (t .lines)) .lines) }
-ifWith false f t = record { instructions = suc (skipOver t); lines = drop 1 (t .lines) }
+ifWith true f t = record { skips = skipOver t ∷ (t .skips ++ gotoOver (f (drop 1 (t .lines)))); lines = drop 1 (f (drop 1 (t .lines)) .lines) }
+ifWith false f t = record { skips = skipOver t ∷ t .skips; lines = drop 1 (t .lines) }
 
 -- the statement or the if whose line has been read; true: it is an if
 unfoldable pub statementLength : Bool → Counter → Counter
 statementLength true f ls = ifWith (atElse (f ls .lines)) f (f ls)
-statementLength false f ls = record { instructions = 1; lines = ls }
+statementLength false f ls = record { skips = 0 ∷ []; lines = ls }
 
 -- true: a statement begins here
 unfoldable pub blockWith : Bool → Counter → Counter
 blockWith true f ls = andThen (statementLength (ifBy (firstRole ls)) f (drop 1 ls)) f
-blockWith false f ls = record { instructions = 0; lines = ls }
+blockWith false f ls = record { skips = []; lines = ls }
 
 -- n is more than the lines
 unfoldable pub blockLength : ℕ → Counter
-blockLength zero ls = record { instructions = 0; lines = ls }
+blockLength zero ls = record { skips = []; lines = ls }
 blockLength (suc n) ls = blockWith (beginsBy (firstRole ls)) (blockLength n) ls
 
--- ---- what the code answers
+-- ---- what the code answers, and what it leaves in the table of skips
 
--- r is what x is, the lines by their place in the guide's text
-pub record Counts (g : List ℕ) (r : Length) (x : Extent) : Type 0 where
-  pub instructions : r .instructions ≡ x .instructions
+-- r is what x is, the lines by their place in the guide's text; the table had the numbers `old`, and in `new` the skips of x stand from the
+-- entry `first` on
+pub record Counts (g : List ℕ) (first : ℕ) (old : List ℕ) (r : Length) (x : Extent) (new : List ℕ) : Type 0 where
+  pub instructions : r .instructions ≡ length (x .skips)
   pub lines : linesAt g (r .end) ≡ x .lines
   pub within : r .end ≤ length g
+  pub table : new ≡ pour first (x .skips) old

@@ -1,11 +1,12 @@
-// The length of blocks in instructions.
+// The length of blocks in instructions, and the skips of the instructions in them.
+use crate::table::store;
 use guide::Here;
 use guide::Role;
 ghost use mathlib.Core.Path.{_≡_};
-ghost use Prim.Native.Nat.{_+_, _≤_};
+ghost use Prim.Native.Nat.{_+_, _≤_, _<_};
 ghost use lib.ListN.{length};
 ghost use Rattle.guide.specs.Lines.{linesAt};
-ghost use Rattle.translate.specs.Lengths.{ifBy, skipOver, statementLength, blockLength, Counts};
+ghost use Rattle.translate.specs.Lengths.{ifBy, statementLength, blockLength, Counts};
 
 // A block or a statement: its instructions, and the place where it ends, which for a block is that of its else, its fi or the end.
 pub struct Length {
@@ -25,10 +26,10 @@ fn is_if(role: Role) -> bool
     }
 }
 
-// The block that begins at a; `lines` is more than its lines.
-pub fn block_length(guide: &[u8], lines: usize, a: usize) -> Length
-    requires { ⌜ a ≤ length (now guide) ⌝ }
-    ensures { λ r. ⌜ Counts (now (guide .entry)) r (blockLength lines (linesAt (now (guide .entry)) a)) ⌝ }
+// The block that begins at a; `lines` is more than its lines. The skips of its instructions are stored from the number `first` on.
+pub fn block_length(guide: &[u8], lines: usize, a: usize, skips: &mut [u16], first: usize) -> Length
+    requires { ⌜ (first ≤ a) × (a ≤ length (now guide)) × (length (now guide) ≤ 16384) ⌝ }
+    ensures { λ r. ⌜ Counts (now (guide .entry)) first (now (skips .entry)) r (blockLength lines (linesAt (now (guide .entry)) a)) (now (skips .exit)) ⌝ }
     ensures { λ r. ⌜ a + r .instructions ≤ r .end ⌝ }
 {
     let mut left = lines;
@@ -39,7 +40,7 @@ pub fn block_length(guide: &[u8], lines: usize, a: usize) -> Length
         let h = guide::line_at(guide, at);
         let role = h.role;
         if guide::begins(role) {
-            let s = statement_length(guide, left, h);
+            let s = statement_length(guide, left, h, skips, first + instructions);
             instructions += s.instructions;
             at = s.end;
         } else {
@@ -55,47 +56,38 @@ pub fn block_length(guide: &[u8], lines: usize, a: usize) -> Length
     }
 }
 
-// The statement or the if whose line is h: an if goes up to the place behind its fi.
-fn statement_length(guide: &[u8], left: usize, h: Here) -> Length
-    requires { ⌜ h .next ≤ length (now guide) ⌝ }
-    ensures { λ r. ⌜ Counts (now (guide .entry)) r (statementLength (ifBy (h .role)) (blockLength left) (linesAt (now (guide .entry)) (h .next))) ⌝ }
+// The statement or the if whose line is h: an if goes up to the place behind its fi. Its first instruction has the number `first`.
+fn statement_length(guide: &[u8], left: usize, h: Here, skips: &mut [u16], first: usize) -> Length
+    requires { ⌜ (first < h .next) × (h .next ≤ length (now guide)) × (length (now guide) ≤ 16384) ⌝ }
+    ensures { λ r. ⌜ Counts (now (guide .entry)) first (now (skips .entry)) r (statementLength (ifBy (h .role)) (blockLength left) (linesAt (now (guide .entry)) (h .next))) (now (skips .exit)) ⌝ }
     ensures { λ r. ⌜ h .next + r .instructions ≤ r .end + 1 ⌝ }
 {
     let role = h.role;
     let next = h.next;
     if is_if(role) {
-        let t = block_length(guide, left, next);
+        let t = block_length(guide, left, next, skips, first + 1);
         let last = guide::line_at(guide, t.end);
         let role = last.role;
         if guide::is_else(role) {
-            let e = block_length(guide, left, last.next);
+            let goto = first + 1 + t.instructions;
+            let e = block_length(guide, left, last.next, skips, goto + 1);
             let fi = guide::line_at(guide, e.end);
+            store(skips, goto, e.instructions);
+            store(skips, first, t.instructions + 1);
             return Length {
                 instructions: t.instructions + e.instructions + 2,
                 end: fi.next,
             };
         }
+        store(skips, first, t.instructions);
         return Length {
             instructions: t.instructions + 1,
             end: last.next,
         };
     }
+    store(skips, first, 0);
     Length {
         instructions: 1,
         end: next,
     }
-}
-
-// The skip of an if whose true block begins at a: the true block's instructions, plus one if there is an else line.
-pub fn if_skip(guide: &[u8], lines: usize, a: usize) -> usize
-    requires { ⌜ a ≤ length (now guide) ⌝ }
-    ensures { λ r. ⌜ r ≡ skipOver (blockLength lines (linesAt (now (guide .entry)) a)) ⌝ }
-{
-    let t = block_length(guide, lines, a);
-    let last = guide::line_at(guide, t.end);
-    let role = last.role;
-    if guide::is_else(role) {
-        return t.instructions + 1;
-    }
-    t.instructions
 }

@@ -1,12 +1,14 @@
 // The translator: guide to plate.
 // specs/Translation.antt says which instructions a block is, specs/Call.antt what the call answers and leaves in the lent buffer.
-// The book is checked, then the guide, and a refusal leaves the buffer as it was. The instructions are written line by line, as
-// specs/LineCode.antt says: an if and an else line count the instructions of the block behind them, by recursion into nested blocks. The
-// plate's bits are made twice: first on no buffer, to learn how many there are, and then on the part of the lent one that they take.
+// The book is checked, then the guide, and a refusal leaves the buffer as it was. The skips are counted first, by recursion into nested
+// blocks, into a table of 512 numbers (specs/Lengths.antt). Then the instructions are written line by line, as specs/LineCode.antt says: an
+// if and an else line take their skip from the table. The plate's bits are made twice: first on no buffer, to learn how many there are, and
+// then on the part of the lent one that they take.
 
 mod instructions;
 mod lengths;
 mod passes;
+mod table;
 
 use causes::Cause;
 use causes::Refusal;
@@ -22,15 +24,16 @@ ghost use Rattle.translate.specs.Call.{translateCall};
 pub fn translate(guide: &[u8], book: &[u8], plate: &mut [u8]) -> Written
     ensures { λ r. ⌜ (writtenAnswer r, now (plate .exit)) ≡ translateCall (now (guide .entry)) (now (book .entry)) (now (plate .entry)) ⌝ }
 {
-    match phrases::check_book(book) {
+    let mut index = [0u32; 256];
+    match phrases::check_book(book, &mut index) {
         Book::Bad(line) => Written::Refused(Refusal {
             cause: Cause::Book,
             place: line,
         }),
-        Book::Holds(_) => match lines::check(Form::Guide, book, guide) {
+        Book::Holds(n) => match lines::check(Form::Guide, &index[..n], book, guide) {
             Checked::Refused(r) => Written::Refused(r),
             Checked::Fine { own, instructions } => {
-                passes::write(guide, book, own, instructions, plate)
+                passes::write(guide, &index[..n], book, own, instructions, plate)
             }
         },
     }

@@ -1,5 +1,6 @@
 // Tries the crate phrases on the cases of its standard input: the check of a book, a text's place among the phrases, the text of a
-// phrase, the width of a place, and the count of a book's lines. Writes a line for each case; model/README.md has the format.
+// phrase, and the width of a place. Writes a line for each case; model/README.md has the format. A lookup in a
+// bad book is answered with the book's first bad line.
 use phrases::Book;
 use phrases::Found;
 
@@ -12,7 +13,8 @@ fn numbered(yes: bool, number: usize) {
 
 // The check of a book. This and the functions below return the place behind the case.
 fn check(s: &[u8], at: usize) -> usize {
-    match phrases::check_book(vectors::slice(s, at)) {
+    let mut index = [0u32; 256];
+    match phrases::check_book(vectors::slice(s, at), &mut index) {
         Book::Holds(count) => numbered(true, count),
         Book::Bad(line) => numbered(false, line),
     }
@@ -28,35 +30,46 @@ fn place(list: usize, place: usize) {
 
 // Where a text is a phrase.
 fn find(s: &[u8], at: usize) -> usize {
+    let mut index = [0u32; 256];
     let second = vectors::past_slice(s, at);
     let third = vectors::past_slice(s, second);
     let last = vectors::past(third, 8);
-    let count = vectors::long_number(s, third);
-    match phrases::find_phrase(
-        vectors::slice(s, at),
-        vectors::slice(s, second),
-        count,
-        vectors::slice(s, last),
-    ) {
-        Found::InBook(i) => place(0, i),
-        Found::InOwn(i) => place(1, i),
-        Found::Nowhere => vectors::write_yes(false),
+    let book = vectors::slice(s, at);
+    match phrases::check_book(book, &mut index) {
+        Book::Bad(line) => numbered(false, line),
+        Book::Holds(n) => match phrases::find_phrase(
+            &index[..n],
+            book,
+            vectors::slice(s, second),
+            vectors::long_number(s, third),
+            vectors::slice(s, last),
+        ) {
+            Found::InBook(i) => place(0, i),
+            Found::InOwn(i) => place(1, i),
+            Found::Nowhere => vectors::write_yes(false),
+        },
     }
     vectors::past_slice(s, last)
 }
 
 // The text of a phrase.
 fn text(s: &[u8], at: usize) -> usize {
+    let mut index = [0u32; 256];
     let second = vectors::past_slice(s, at);
     let third = vectors::past_slice(s, second);
     let is_own = vectors::number(s, third) == 1;
     let i = vectors::long_number(s, vectors::past(third, 4));
-    vectors::write_hex(phrases::phrase_text(
-        vectors::slice(s, at),
-        vectors::slice(s, second),
-        is_own,
-        i,
-    ));
+    let book = vectors::slice(s, at);
+    match phrases::check_book(book, &mut index) {
+        Book::Bad(line) => numbered(false, line),
+        Book::Holds(n) => vectors::write_hex(phrases::phrase_text(
+            &index[..n],
+            book,
+            vectors::slice(s, second),
+            is_own,
+            i,
+        )),
+    }
     vectors::past(third, 12)
 }
 
@@ -69,12 +82,6 @@ fn width(s: &[u8], at: usize) -> usize {
     vectors::past(at, 4)
 }
 
-// The count of a book's lines.
-fn count(s: &[u8], at: usize) -> usize {
-    vectors::write_natural(phrases::count_texts(vectors::slice(s, at)));
-    vectors::past_slice(s, at)
-}
-
 // One case, by its first number, without the line's end.
 fn case(s: &[u8], at: usize) -> usize {
     let first = vectors::past(at, 4);
@@ -82,8 +89,7 @@ fn case(s: &[u8], at: usize) -> usize {
         0 => check(s, first),
         1 => find(s, first),
         2 => text(s, first),
-        3 => width(s, first),
-        _ => count(s, first),
+        _ => width(s, first),
     }
 }
 

@@ -63,69 +63,76 @@ module _ (g : List ℕ) (a : ℕ) (h : Here) (r : Reads g a h) where
   unfolding leaveElse
   leave-second s = rw (r .rest) refl
 
+-- ---- the rest of a block
+
+-- what leaves the walk of n lines from the place a on so, leaves the whole block so: v, written from `first` on into `old`
+abbrev pub Rest : List ℕ → List ℤ → ℕ → ℕ → State → ℕ → List ℕ → ℕ → Left → List ℕ → Type 0
+Rest g answers n a s at out first v old =
+    (w : Walked) (rs : List ℤ) (o : List ℕ) → Leaves g answers w rs o at (descend n s (linesAt g a)) out → Leaves g answers w rs o first v old
+
 -- ---- what is left
 
 module _ (g : List ℕ) (answers : List ℤ) (at : ℕ) (out : List ℕ) where
-  pub block-none : (n a : ℕ) (s : State) (w : Walked) (o : List ℕ) → n ≡ 0 → Leaves g answers w o at (here s (linesAt g a)) out
-      → Leaves g answers w o at (descend n s (linesAt g a)) out
-  block-none n a s w o e f = leaves-as g answers w o at _ out f _ (descend-none n s (linesAt g a) e)
+  pub block-none : (n a : ℕ) (s : State) (w : Walked) (rs : List ℤ) (o : List ℕ) → n ≡ 0 → Leaves g answers w rs o at (here s (linesAt g a)) out
+      → Leaves g answers w rs o at (descend n s (linesAt g a)) out
+  block-none n a s w rs o e f = leaves-as g answers w rs o at _ out f _ (descend-none n s (linesAt g a) e)
 
-  pub block-ends : (n a : ℕ) (s : State) (h : Here) (w : Walked) (o : List ℕ) → Reads g a h → beginsBy (h .role) ≡ false
-      → Leaves g answers w o at (here s (linesAt g a)) out → Leaves g answers w o at (descend n s (linesAt g a)) out
-  block-ends n a s h w o r v f = leaves-as g answers w o at _ out f _ (descend-ends n s (linesAt g a) (ap beginsBy (sym (r .role)) ∙ v))
+  pub block-ends : (n a : ℕ) (s : State) (h : Here) (w : Walked) (rs : List ℤ) (o : List ℕ) → Reads g a h → beginsBy (h .role) ≡ false
+      → Leaves g answers w rs o at (here s (linesAt g a)) out → Leaves g answers w rs o at (descend n s (linesAt g a)) out
+  block-ends n a s h w rs o r v f = leaves-as g answers w rs o at _ out f _ (descend-ends n s (linesAt g a) (ap beginsBy (sym (r .role)) ∙ v))
 
   -- a statement begins at a, and its line is h
-  module _ (n a : ℕ) (s : State) (h : Here) (r : Reads g a h) (v : beginsBy (h .role) ≡ true) (e : n ≡ 0 → ⊥) (w : Walked) (o : List ℕ)
-      (f : Leaves g answers w o at (statementWith (descend (n - 1)) s (lineOf aGuide (lineText g h) ∷ linesAt g (h .next))) out) where
+  module _ (n a : ℕ) (s : State) (h : Here) (r : Reads g a h) (v : beginsBy (h .role) ≡ true) (e : n ≡ 0 → ⊥) (w : Walked) (rs : List ℤ) (o : List ℕ)
+      (f : Leaves g answers w rs o at (statementWith (descend (n - 1)) s (lineOf aGuide (lineText g h) ∷ linesAt g (h .next))) out) where
     begun : next (statementWith (descend (n - 1)) s (lineOf aGuide (lineText g h) ∷ linesAt g (h .next))) (descend (n - 1))
         ≡ descend n s (linesAt g a)
     begun =
         ap (λ (ls : List Line). next (statementWith (descend (n - 1)) s ls) (descend (n - 1))) (sym (begins-first g a h r v .lines))
         ∙ descend-more n s (linesAt g a) e (ap beginsBy (sym (r .role)) ∙ v)
 
-    pub block-ended : isEnd (w .left .outcome) ≡ false → Leaves g answers w o at (descend n s (linesAt g a)) out
-    block-ended i = leaves-as g answers w o at _ out (leaves-ended g answers w o at _ out f (descend (n - 1)) i) _ begun
+    pub block-ended : isEnd (w .left .outcome) ≡ false → Leaves g answers w rs o at (descend n s (linesAt g a)) out
+    block-ended i = leaves-as g answers w rs o at _ out (leaves-ended g answers w rs o at _ out f (descend (n - 1)) i) _ begun
 
-    pub block-goes : (x : Walked) (new : List ℕ) → isEnd (w .left .outcome) ≡ true
-        → Leaves g answers x new (w .left .end) (descend (n - 1) (machineState answers (w .left .machine)) (linesAt g (w .place))) o
-        → length out < 9223372036854775808 → Leaves g answers x new at (descend n s (linesAt g a)) out
-    block-goes x new i k l =
-        leaves-as g answers x new at _ out
-        (leaves-goes g answers w o at _ out f (descend (n - 1)) x new i (descend-adds (n - 1)) k l)
+    pub block-goes : (x : Walked) (us : List ℤ) (new : List ℕ) → isEnd (w .left .outcome) ≡ true
+        → Leaves g answers x us new (w .left .end) (descend (n - 1) (machineState rs answers (w .left .machine)) (linesAt g (w .place))) o
+        → length out < 9223372036854775808 → Leaves g answers x us new at (descend n s (linesAt g a)) out
+    block-goes x us new i k l =
+        leaves-as g answers x us new at _ out
+        (leaves-goes g answers w rs o at _ out f (descend (n - 1)) x us new i (descend-adds (n - 1)) k l)
         _
         begun
 
   -- ---- the true block
 
-  module _ (n : ℕ) (s : State) (ls : List Line) (w : Walked) (o : List ℕ) (f : Leaves g answers w o at (descend n s ls) out) where
-    pub true-ended : isEnd (w .left .outcome) ≡ false → Leaves g answers w o at (walkIf true (descend n) s ls) out
+  module _ (n : ℕ) (s : State) (ls : List Line) (w : Walked) (rs : List ℤ) (o : List ℕ) (f : Leaves g answers w rs o at (descend n s ls) out) where
+    pub true-ended : isEnd (w .left .outcome) ≡ false → Leaves g answers w rs o at (walkIf true (descend n) s ls) out
     unfolding walkIf
-    true-ended i = leaves-ended g answers w o at _ out f leaveTrue i
+    true-ended i = leaves-ended g answers w rs o at _ out f leaveTrue i
 
-    pub true-goes : (x : Walked) (new : List ℕ) → isEnd (w .left .outcome) ≡ true
-        → Leaves g answers x new (w .left .end) (leaveTrue (machineState answers (w .left .machine)) (linesAt g (w .place))) o
-        → length out < 9223372036854775808 → Leaves g answers x new at (walkIf true (descend n) s ls) out
+    pub true-goes : (x : Walked) (us : List ℤ) (new : List ℕ) → isEnd (w .left .outcome) ≡ true
+        → Leaves g answers x us new (w .left .end) (leaveTrue (machineState rs answers (w .left .machine)) (linesAt g (w .place))) o
+        → length out < 9223372036854775808 → Leaves g answers x us new at (walkIf true (descend n) s ls) out
     unfolding walkIf
-    true-goes x new i k l = leaves-goes g answers w o at _ out f leaveTrue x new i true-adds k l
+    true-goes x us new i k l = leaves-goes g answers w rs o at _ out f leaveTrue x us new i true-adds k l
 
   -- ---- the else block: the true block has been passed over, and h is the first line from its end p on
 
   module _ (n a p : ℕ) (s : State) (h : Here) (e : linesAt g p ≡ pass 0 (linesAt g a)) (r : Reads g p h) where
-    pub no-else : (w : Walked) (o : List ℕ) → elseBy (h .role) ≡ false → Leaves g answers w o at (here s (linesAt g (h .next))) out
-        → Leaves g answers w o at (walkIf false (descend n) s (linesAt g a)) out
+    pub no-else : (w : Walked) (rs : List ℤ) (o : List ℕ) → elseBy (h .role) ≡ false → Leaves g answers w rs o at (here s (linesAt g (h .next))) out
+        → Leaves g answers w rs o at (walkIf false (descend n) s (linesAt g a)) out
     unfolding walkIf elseBlock
-    no-else w o v f = leaves-as g answers w o at _ out f _ (rw (← e, at-else g p h r v, r .rest) refl)
+    no-else w rs o v f = leaves-as g answers w rs o at _ out f _ (rw (← e, at-else g p h r v, r .rest) refl)
 
-    module _ (v : elseBy (h .role) ≡ true) (w : Walked) (o : List ℕ) (f : Leaves g answers w o at (descend n s (linesAt g (h .next))) out) where
+    module _ (v : elseBy (h .role) ≡ true) (w : Walked) (rs : List ℤ) (o : List ℕ) (f : Leaves g answers w rs o at (descend n s (linesAt g (h .next))) out) where
       turned : next (descend n s (linesAt g (h .next))) leaveElse ≡ walkIf false (descend n) s (linesAt g a)
       unfolding walkIf elseBlock
       turned = rw (← e, at-else g p h r v, r .rest) refl
 
-      pub else-ended : isEnd (w .left .outcome) ≡ false → Leaves g answers w o at (walkIf false (descend n) s (linesAt g a)) out
-      else-ended i = leaves-as g answers w o at _ out (leaves-ended g answers w o at _ out f leaveElse i) _ turned
+      pub else-ended : isEnd (w .left .outcome) ≡ false → Leaves g answers w rs o at (walkIf false (descend n) s (linesAt g a)) out
+      else-ended i = leaves-as g answers w rs o at _ out (leaves-ended g answers w rs o at _ out f leaveElse i) _ turned
 
-      pub else-goes : (x : Walked) (new : List ℕ) → isEnd (w .left .outcome) ≡ true
-          → Leaves g answers x new (w .left .end) (leaveElse (machineState answers (w .left .machine)) (linesAt g (w .place))) o
-          → length out < 9223372036854775808 → Leaves g answers x new at (walkIf false (descend n) s (linesAt g a)) out
-      else-goes x new i k l =
-          leaves-as g answers x new at _ out (leaves-goes g answers w o at _ out f leaveElse x new i else-adds k l) _ turned
+      pub else-goes : (x : Walked) (us : List ℤ) (new : List ℕ) → isEnd (w .left .outcome) ≡ true
+          → Leaves g answers x us new (w .left .end) (leaveElse (machineState rs answers (w .left .machine)) (linesAt g (w .place))) o
+          → length out < 9223372036854775808 → Leaves g answers x us new at (walkIf false (descend n) s (linesAt g a)) out
+      else-goes x us new i k l =
+          leaves-as g answers x us new at _ out (leaves-goes g answers w rs o at _ out f leaveElse x us new i else-adds k l) _ turned

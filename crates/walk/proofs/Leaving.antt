@@ -58,66 +58,66 @@ follow-here (outside s) ls = refl
 
 module _ (g : List ℕ) (answers : List ℤ) where
   -- it goes on, with nothing written
-  pub leaves-here : (m : Machine) (end place : ℕ) (out : List ℕ) → end ≤ 18446744073709551615
-      → Leaves g answers (record { left = record { machine = m; outcome = End; end = end }; place = place }) out end
-      (here (machineState answers m) (linesAt g place)) out
-  leaves-here m end place out h =
-      record { left = lay-here answers m End end out h; lines = λ e. refl }
+  pub leaves-here : (rs : List ℤ) (m : Machine) (end place : ℕ) (out : List ℕ) → end ≤ 18446744073709551615
+      → Leaves g answers (record { left = record { machine = m; outcome = End; end = end }; place = place }) rs out end
+      (here (machineState rs answers m) (linesAt g place)) out
+  leaves-here rs m end place out h =
+      record { left = lay-here rs answers m End end out h; lines = λ e. refl }
 
   -- a statement has been performed
-  pub leaves-performed : (p : Performed) (place : ℕ) (o : List ℕ) (at : ℕ) (e : Ending) (out : List ℕ) → performed answers p o ≡ laid at e out
-      → Leaves g answers (record { left = p; place = place }) o at (follow e (linesAt g place) here) out
-  leaves-performed p place o at e out h =
+  pub leaves-performed : (p : Performed) (place : ℕ) (rs : List ℤ) (o : List ℕ) (at : ℕ) (e : Ending) (out : List ℕ)
+      → performed rs answers p o ≡ laid at e out → Leaves g answers (record { left = p; place = place }) rs o at (follow e (linesAt g place) here) out
+  leaves-performed p place rs o at e out h =
       record {
         left = h ∙ ap (λ (f : Ending). laid at f out) (follow-here e (linesAt g place));
-        lines = λ z. lines (goes e (sym z ∙ lay-outcome answers p o at e out h));
+        lines = λ z. lines (goes e (sym z ∙ lay-outcome rs answers p o at e out h));
       }
     where
       lines : (s : State) × (e ≡ goesOn s) → linesAt g place ≡ follow e (linesAt g place) here .lines
       lines (s, q) = rw q
 
-  module _ (w : Walked) (o : List ℕ) (at : ℕ) (v : Left) (out : List ℕ) (h : Leaves g answers w o at v out) where
+  module _ (w : Walked) (rs : List ℤ) (o : List ℕ) (at : ℕ) (v : Left) (out : List ℕ) (h : Leaves g answers w rs o at v out) where
     -- the same walk in other words
-    pub leaves-as : (u : Left) → v ≡ u → Leaves g answers w o at u out
-    leaves-as u e = subst (λ (x : Left). Leaves g answers w o at x out) e h
+    pub leaves-as : (u : Left) → v ≡ u → Leaves g answers w rs o at u out
+    leaves-as u e = subst (λ (x : Left). Leaves g answers w rs o at x out) e h
 
     -- it has ended, and nothing follows
-    pub leaves-ended : (k : Walker) → isEnd (w .left .outcome) ≡ false → Leaves g answers w o at (next v k) out
+    pub leaves-ended : (k : Walker) → isEnd (w .left .outcome) ≡ false → Leaves g answers w rs o at (next v k) out
     unfolding next
     leaves-ended k n =
         record {
           left =
-              lay-ended answers (w .left) o at (v .ending) (λ s. k s (v .lines) .ending) out (h .left) (not-end (w .left .outcome) n)
+              lay-ended rs answers (w .left) o at (v .ending) (λ s. k s (v .lines) .ending) out (h .left) (not-end (w .left .outcome) n)
               ∙ ap (λ (e : Ending). laid at e out) (follow-ending (v .ending) (v .lines) k);
           lines = λ z. absurd (not-end (w .left .outcome) n z);
         }
 
     next-lines : (k : Walker) → Adds k → w .left .outcome ≡ End
-        → k (machineState answers (w .left .machine)) (v .lines) .lines ≡ follow (v .ending) (v .lines) k .lines
-    next-lines k a z = go (goes (v .ending) (sym z ∙ lay-outcome answers (w .left) o at (v .ending) out (h .left)))
+        → k (machineState rs answers (w .left .machine)) (v .lines) .lines ≡ follow (v .ending) (v .lines) k .lines
+    next-lines k a z = go (goes (v .ending) (sym z ∙ lay-outcome rs answers (w .left) o at (v .ending) out (h .left)))
       where
         go : (s : State) × (v .ending ≡ goesOn s)
-            → k (machineState answers (w .left .machine)) (v .lines) .lines ≡ follow (v .ending) (v .lines) k .lines
+            → k (machineState rs answers (w .left .machine)) (v .lines) .lines ≡ follow (v .ending) (v .lines) k .lines
         go (s, q) =
-            let m : machineState answers (w .left .machine) ≡ cleared s =
-            lay-machine answers (w .left) o at (v .ending) out (h .left) ∙ ap (λ (e : Ending). stateOf (clearedEnding e)) q
+            let m : machineState rs answers (w .left .machine) ≡ cleared s =
+            lay-machine rs answers (w .left) o at (v .ending) out (h .left) ∙ ap (λ (e : Ending). stateOf (clearedEnding e)) q
             in
             let same = ap (λ (l : Left). l .lines) (a (s .transcript) (cleared s) (v .lines)) in
             rw (q, m) (rw append-nil at (sym same))
 
     -- it goes on, and k follows
-    pub leaves-goes : (k : Walker) (x : Walked) (new : List ℕ) → isEnd (w .left .outcome) ≡ true → Adds k
-        → Leaves g answers x new (w .left .end) (k (machineState answers (w .left .machine)) (linesAt g (w .place))) o
-        → length out < 9223372036854775808 → Leaves g answers x new at (next v k) out
+    pub leaves-goes : (k : Walker) (x : Walked) (us : List ℤ) (new : List ℕ) → isEnd (w .left .outcome) ≡ true → Adds k
+        → Leaves g answers x us new (w .left .end) (k (machineState rs answers (w .left .machine)) (linesAt g (w .place))) o
+        → length out < 9223372036854775808 → Leaves g answers x us new at (next v k) out
     unfolding next
-    leaves-goes k x new n a f l =
+    leaves-goes k x us new n a f l =
         let z = is-end (w .left .outcome) n in
-        let m = machineState answers (w .left .machine) in
+        let m = machineState rs answers (w .left .machine) in
         record {
           left =
               f .left
               ∙ ap (λ (ls : List Line). laid (w .left .end) (k m ls .ending) o) (h .lines z)
-              ∙ lay-goes answers (w .left) o at (v .ending) (λ s. k s (v .lines) .ending) out (h .left) z
+              ∙ lay-goes rs answers (w .left) o at (v .ending) (λ s. k s (v .lines) .ending) out (h .left) z
               (λ t s. ap (λ (l : Left). l .ending) (a t s (v .lines))) l
               ∙ ap (λ (e : Ending). laid at e out) (follow-ending (v .ending) (v .lines) k);
           lines = λ y. f .lines y ∙ ap (λ (ls : List Line). k m ls .lines) (h .lines z) ∙ next-lines k a z;

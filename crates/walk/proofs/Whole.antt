@@ -34,11 +34,11 @@ use Rattle.walk.proofs.WalkLines.{walk-lines}
 
 -- ---- the walk over the lines, from the start
 
-pub text-laid : (g : List ℕ) (answers : List ℤ) (m : Machine) (w : Walked) (o out : List ℕ) → machineState answers m ≡ start answers
-    → Leaves g answers w o 0 (descend (length g + 2) (machineState answers m) (linesAt g 0)) out
-    → performed answers (w .left) o ≡ laid 0 (walkText g answers) out
+pub text-laid : (g : List ℕ) (answers rs : List ℤ) (m : Machine) (w : Walked) (us : List ℤ) (o out : List ℕ) → machineState rs answers m ≡ start answers
+    → Leaves g answers w us o 0 (descend (length g + 2) (machineState rs answers m) (linesAt g 0)) out
+    → performed us answers (w .left) o ≡ laid 0 (walkText g answers) out
 unfolding walkText
-text-laid g answers m w o out e f =
+text-laid g answers rs m w us o out e f =
     f .left ∙ ap (λ (s : State). laid 0 (descend (length g + 2) s (linesAt g 0) .ending) out) e
 
 -- ---- the book and the guide

@@ -11,9 +11,10 @@ use Rattle.guide.specs.Lines.{linesAt}
 use Rattle.walk.specs.declared.Walked.{Walked}
 use Rattle.walk.specs.Descend.{Left}
 
--- The code has answered w and left the buffer `new`: as the walk v does whose transcript is written from `at` on into `old`.
-pub record Leaves (g : List ℕ) (answers : List ℤ) (w : Walked) (new : List ℕ) (at : ℕ) (v : Left) (old : List ℕ) : Type 0 where
-  pub left : performed answers (w .left) new ≡ laid at (v .ending) old
+-- The code has answered w and left the registers and the buffer `new`: as the walk v does whose transcript is written from `at` on into `old`.
+pub record Leaves (g : List ℕ) (answers : List ℤ) (w : Walked) (registers : List ℤ) (new : List ℕ) (at : ℕ) (v : Left) (old : List ℕ)
+    : Type 0 where
+  pub left : performed registers answers (w .left) new ≡ laid at (v .ending) old
   pub lines : w .left .outcome ≡ End → linesAt g (w .place) ≡ v .lines
 
 -- no more steps than bytes passed

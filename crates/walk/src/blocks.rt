@@ -1,4 +1,5 @@
-// A block and a statement, which call each other.
+// A block and a statement, which call each other: a block runs its statements in order, and an if statement runs one of its blocks. So the
+// calls nest as deep as the ifs do.
 use crate::Walked;
 use crate::leave::goes_on;
 use crate::leave::here;
@@ -20,41 +21,51 @@ ghost use Rattle.guide.specs.Lines.{beginsBy, linesAt, lineText, Stands};
 ghost use Rattle.walk.specs.Descend.{walkIf, statementWith, descend};
 ghost use Rattle.walk.specs.Leaves.{Leaves, Paced};
 
-// The block that begins at a, up to its else, its fi or the end; `left` is more than its lines.
+// The block that begins at a, up to its else, its fi or the end; `lines` is more than its lines.
 pub fn block(
     guide: &[u8],
     answers: &[i32],
+    registers: &mut [i32; 32],
     out: &mut [u8],
-    left: usize,
+    lines: usize,
     a: usize,
     at: usize,
-    m: Machine,
+    begun: Machine,
 ) -> Walked
-    requires { ⌜ (a ≤ length (now guide)) × (m .steps ≤ a) ⌝ }
-    ensures { λ w. ⌜ Leaves (now (guide .entry)) (now (answers .entry)) w (now (out .exit)) at (descend left (machineState (now (answers .entry)) m) (linesAt (now (guide .entry)) a)) (now (out .entry)) ⌝ }
+    requires { ⌜ (a ≤ length (now guide)) × (begun .steps ≤ a) ⌝ }
+    ensures { λ w. ⌜ Leaves (now (guide .entry)) (now (answers .entry)) w (now (registers .exit)) (now (out .exit)) at (descend lines (machineState (now (registers .entry)) (now (answers .entry)) begun) (linesAt (now (guide .entry)) a)) (now (out .entry)) ⌝ }
     ensures { λ w. ⌜ Paced (now (guide .entry)) w ⌝ }
 {
-    if left == 0 {
-        return here(m, at, a);
-    }
-    let h = guide::line_at(guide, a);
-    let role = h.role;
-    if guide::begins(role) {
-        let w = statement(guide, answers, out, left - 1, h, at, m);
-        let p = w.left;
-        if goes_on(p) {
-            let n = p.machine;
-            return block(guide, answers, out, left - 1, w.place, p.end, n);
+    let mut left = lines;
+    let mut place = a;
+    let mut end = at;
+    let mut m = begun;
+    while 0 < left {
+        let h = guide::line_at(guide, place);
+        let role = h.role;
+        if guide::begins(role) {
+            let w = statement(guide, answers, registers, out, left - 1, h, end, m);
+            let p = w.left;
+            if goes_on(p) {
+                left -= 1;
+                place = w.place;
+                end = p.end;
+                m = p.machine;
+            } else {
+                return w;
+            }
+        } else {
+            return here(m, end, place);
         }
-        return w;
     }
-    here(m, at, a)
+    here(m, end, place)
 }
 
 // The statement or the if whose line is h.
 fn statement(
     guide: &[u8],
     answers: &[i32],
+    registers: &mut [i32; 32],
     out: &mut [u8],
     left: usize,
     h: Here,
@@ -62,30 +73,31 @@ fn statement(
     m: Machine,
 ) -> Walked
     requires { ⌜ Stands (now guide) h × (beginsBy (h .role) ≡ true) × (m .steps < h .next) ⌝ }
-    ensures { λ w. ⌜ Leaves (now (guide .entry)) (now (answers .entry)) w (now (out .exit)) at (statementWith (descend left) (machineState (now (answers .entry)) m) (lineOf aGuide (lineText (now (guide .entry)) h) ∷ linesAt (now (guide .entry)) (h .next))) (now (out .entry)) ⌝ }
+    ensures { λ w. ⌜ Leaves (now (guide .entry)) (now (answers .entry)) w (now (registers .exit)) (now (out .exit)) at (statementWith (descend left) (machineState (now (registers .entry)) (now (answers .entry)) m) (lineOf aGuide (lineText (now (guide .entry)) h) ∷ linesAt (now (guide .entry)) (h .next))) (now (out .entry)) ⌝ }
     ensures { λ w. ⌜ Paced (now (guide .entry)) w ⌝ }
 {
     let head = h.head;
     let start = h.start;
     let end = h.end;
     let Head::If { test } = head else {
-        let p = perform(&guide[start..end], head, answers, out, at, m);
+        let p = perform(&guide[start..end], head, answers, registers, out, at, m);
         return Walked {
             left: p,
             place: h.next,
         };
     };
     let n = transcript::stepped(m);
-    if transcript::holds(m, test) {
-        return true_block(guide, answers, out, left, h.next, at, n);
+    if transcript::holds(registers, test) {
+        return true_block(guide, answers, registers, out, left, h.next, at, n);
     }
-    no_block(guide, answers, out, left, h.next, at, n)
+    no_block(guide, answers, registers, out, left, h.next, at, n)
 }
 
 // An if whose test holds, from its true block on.
 fn true_block(
     guide: &[u8],
     answers: &[i32],
+    registers: &mut [i32; 32],
     out: &mut [u8],
     left: usize,
     a: usize,
@@ -93,10 +105,10 @@ fn true_block(
     m: Machine,
 ) -> Walked
     requires { ⌜ (a ≤ length (now guide)) × (m .steps ≤ a) ⌝ }
-    ensures { λ w. ⌜ Leaves (now (guide .entry)) (now (answers .entry)) w (now (out .exit)) at (walkIf true (descend left) (machineState (now (answers .entry)) m) (linesAt (now (guide .entry)) a)) (now (out .entry)) ⌝ }
+    ensures { λ w. ⌜ Leaves (now (guide .entry)) (now (answers .entry)) w (now (registers .exit)) (now (out .exit)) at (walkIf true (descend left) (machineState (now (registers .entry)) (now (answers .entry)) m) (linesAt (now (guide .entry)) a)) (now (out .entry)) ⌝ }
     ensures { λ w. ⌜ Paced (now (guide .entry)) w ⌝ }
 {
-    let w = block(guide, answers, out, left, a, at, m);
+    let w = block(guide, answers, registers, out, left, a, at, m);
     let p = w.left;
     if goes_on(p) {
         let n = p.machine;
@@ -109,6 +121,7 @@ fn true_block(
 fn no_block(
     guide: &[u8],
     answers: &[i32],
+    registers: &mut [i32; 32],
     out: &mut [u8],
     left: usize,
     a: usize,
@@ -116,13 +129,13 @@ fn no_block(
     m: Machine,
 ) -> Walked
     requires { ⌜ (a ≤ length (now guide)) × (m .steps ≤ a) ⌝ }
-    ensures { λ w. ⌜ Leaves (now (guide .entry)) (now (answers .entry)) w (now (out .exit)) at (walkIf false (descend left) (machineState (now (answers .entry)) m) (linesAt (now (guide .entry)) a)) (now (out .entry)) ⌝ }
+    ensures { λ w. ⌜ Leaves (now (guide .entry)) (now (answers .entry)) w (now (registers .exit)) (now (out .exit)) at (walkIf false (descend left) (machineState (now (registers .entry)) (now (answers .entry)) m) (linesAt (now (guide .entry)) a)) (now (out .entry)) ⌝ }
     ensures { λ w. ⌜ Paced (now (guide .entry)) w ⌝ }
 {
     let h = guide::line_at(guide, guide::pass_over(guide, a));
     let role = h.role;
     if guide::is_else(role) {
-        let w = block(guide, answers, out, left, h.next, at, m);
+        let w = block(guide, answers, registers, out, left, h.next, at, m);
         let p = w.left;
         if goes_on(p) {
             let n = p.machine;

@@ -29,7 +29,7 @@ pub fn goes_on(p: Performed) -> bool
 
 // The walk goes on at a place.
 pub fn here(m: Machine, end: usize, place: usize) -> Walked
-    ensures { λ r. ⌜ ((g : List ℕ) (answers : List ℤ) (out : List ℕ) → Leaves g answers r out end (descend.here (machineState answers m) (linesAt g place)) out) ⌝ }
+    ensures { λ r. ⌜ ((g : List ℕ) (registers answers : List ℤ) (out : List ℕ) → Leaves g answers r registers out end (descend.here (machineState registers answers m) (linesAt g place)) out) ⌝ }
     ensures { λ r. ⌜ (r .place ≡ place) × (r .left .machine .steps ≡ m .steps) ⌝ }
 {
     let left = Performed {
@@ -43,7 +43,7 @@ pub fn here(m: Machine, end: usize, place: usize) -> Walked
 // Behind a true block that ends at a: with an else line one step, and the else block is passed over.
 pub fn leave_true(guide: &[u8], a: usize, end: usize, m: Machine) -> Walked
     requires { ⌜ (a ≤ length (now guide)) × (m .steps ≤ a) ⌝ }
-    ensures { λ r. ⌜ ((answers : List ℤ) (out : List ℕ) → Leaves (now (guide .entry)) answers r out end (descend.leaveTrue (machineState answers m) (linesAt (now (guide .entry)) a)) out) ⌝ }
+    ensures { λ r. ⌜ ((registers answers : List ℤ) (out : List ℕ) → Leaves (now (guide .entry)) answers r registers out end (descend.leaveTrue (machineState registers answers m) (linesAt (now (guide .entry)) a)) out) ⌝ }
     ensures { λ r. ⌜ Paced (now (guide .entry)) r ⌝ }
 {
     let h = guide::line_at(guide, a);
@@ -59,7 +59,7 @@ pub fn leave_true(guide: &[u8], a: usize, end: usize, m: Machine) -> Walked
 // Behind an else block that ends at a.
 pub fn leave_else(guide: &[u8], a: usize, end: usize, m: Machine) -> Walked
     requires { ⌜ (a ≤ length (now guide)) × (m .steps ≤ a) ⌝ }
-    ensures { λ r. ⌜ ((answers : List ℤ) (out : List ℕ) → Leaves (now (guide .entry)) answers r out end (descend.leaveElse (machineState answers m) (linesAt (now (guide .entry)) a)) out) ⌝ }
+    ensures { λ r. ⌜ ((registers answers : List ℤ) (out : List ℕ) → Leaves (now (guide .entry)) answers r registers out end (descend.leaveElse (machineState registers answers m) (linesAt (now (guide .entry)) a)) out) ⌝ }
     ensures { λ r. ⌜ Paced (now (guide .entry)) r ⌝ }
 {
     let h = guide::line_at(guide, a);

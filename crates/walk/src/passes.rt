@@ -6,18 +6,22 @@ use causes::Refusal;
 use causes::Report;
 use transcript::Performed;
 ghost use mathlib.Core.Path.{_≡_};
+ghost use mathlib.Core.List.{List};
+ghost use lib.IntN.{ℤ};
 ghost use Rattle.causes.specs.Answers.{made, lent, ranAnswer};
 ghost use Rattle.transcript.specs.Perform.{report};
 ghost use Rattle.transcript.specs.Machine.{laid, performed};
 ghost use Rattle.walk.specs.Descend.{walkText};
 
-// The walk over a guide's lines: the buffer takes as much of the transcript as it has room for.
+// The walk over a guide's lines, with registers that are all 0 at first: the buffer takes as much of the transcript as it has room for.
 fn produce(guide: &[u8], answers: &[i32], out: &mut [u8]) -> Performed
-    ensures { λ r. ⌜ performed (now (answers .entry)) r (now (out .exit)) ≡ laid 0 (walkText (now (guide .entry)) (now (answers .entry))) (now (out .entry)) ⌝ }
+    ensures { λ r. ⌜ ((registers : List ℤ) × (performed registers (now (answers .entry)) r (now (out .exit)) ≡ laid 0 (walkText (now (guide .entry)) (now (answers .entry))) (now (out .entry)))) ⌝ }
 {
+    let mut registers = [0i32; 32];
     let w = block(
         guide,
         answers,
+        &mut registers,
         out,
         guide.len() + 2,
         0,

@@ -34,18 +34,19 @@ fn offer(
     register: usize,
     options: usize,
     answers: &[i32],
+    registers: &mut [i32; 32],
     out: &mut [u8],
     at: usize,
     m: Machine,
 ) -> Performed
     requires { ⌜ (register < 32) × (options ≡ length (drop 3 (split comma (now line)))) × (options ≤ 8) × (m .steps < 18446744073709551615) ⌝ }
-    ensures { λ r. ⌜ performed (now (answers .entry)) r (now (out .exit)) ≡ laid at (statement.perform (inputs register (getD (split comma (now (line .entry))) 2 []) (drop 3 (split comma (now (line .entry))))) (machineState (now (answers .entry)) m)) (now (out .entry)) ⌝ }
+    ensures { λ r. ⌜ performed (now (registers .exit)) (now (answers .entry)) r (now (out .exit)) ≡ laid at (statement.perform (inputs register (getD (split comma (now (line .entry))) 2 []) (drop 3 (split comma (now (line .entry))))) (machineState (now (registers .entry)) (now (answers .entry)) m)) (now (out .entry)) ⌝ }
     ensures { λ r. ⌜ r .machine .steps ≡ m .steps + 1 ⌝ }
 {
     let end = transcript::put_offer(out, at, text::part(line, b',', 2));
     let end = put_options(line, options, out, end);
     let end = transcript::put_end(out, end);
-    transcript::choose(out, end, register, options, answers, m)
+    transcript::choose(out, end, registers, register, options, answers, m)
 }
 
 // The statement of a line with this head.
@@ -53,24 +54,28 @@ pub fn perform(
     line: &[u8],
     head: Head,
     answers: &[i32],
+    registers: &mut [i32; 32],
     out: &mut [u8],
     at: usize,
     m: Machine,
 ) -> Performed
     requires { ⌜ Says head (split comma (now line)) × (m .steps < 18446744073709551615) ⌝ }
-    ensures { λ r. ⌜ performed (now (answers .entry)) r (now (out .exit)) ≡ laid at (statement.perform (statementBy head (split comma (now (line .entry)))) (machineState (now (answers .entry)) m)) (now (out .entry)) ⌝ }
+    ensures { λ r. ⌜ performed (now (registers .exit)) (now (answers .entry)) r (now (out .exit)) ≡ laid at (statement.perform (statementBy head (split comma (now (line .entry)))) (machineState (now (registers .entry)) (now (answers .entry)) m)) (now (out .entry)) ⌝ }
     ensures { λ r. ⌜ r .machine .steps ≡ m .steps + 1 ⌝ }
 {
     match head {
         Head::Input { register } => transcript::ask(
             out,
             at,
+            registers,
             register,
             text::part(line, b',', 2),
             answers,
             m,
         ),
-        Head::Inputs { register, options } => offer(line, register, options, answers, out, at, m),
+        Head::Inputs { register, options } => {
+            offer(line, register, options, answers, registers, out, at, m)
+        }
         Head::Print => transcript::show(out, at, text::part(line, b',', 1), m),
         _ => transcript::rule(out, at, text::part(line, b',', 1), m),
     }

@@ -12,7 +12,6 @@ use Rattle.phrases.specs.declared.Book.the-variants.{Holds, Bad}
 use Rattle.phrases.specs.Book.{bookPhrases}
 use Rattle.phrases.specs.Lookup.{bookTexts, bookAnswer}
 use Rattle.phrases.proofs.Answers.{book-is}
-use Rattle.phrases.proofs.BookValid.{book-ok}
 use Rattle.lines.specs.declared.Form.the-variants.{Listing}
 use Rattle.lines.specs.declared.Checked.the-variants.{Fine, Refused}
 use Rattle.lines.specs.Check.{linesOf}
@@ -35,9 +34,6 @@ pastIn past.Nowhere = none
 past-back : (o : Option ℕ) → o ≡ pastIn (pastAnswer o)
 past-back none = refl
 past-back (some line) = refl
-
-pub book-few : (book : List ℕ) {size : ℕ} → bookAnswer (bookPhrases book) ≡ Holds size → length (bookTexts book) ≤ 65536
-book-few book b = omega (arith, book-ok book (bookTexts book) (book-is book b) .1)
 
 module _ (listing book buffer : List ℕ) where
   pub call-book : (line : ℕ) → bookAnswer (bookPhrases book) ≡ Bad line → (refusing Book line, buffer) ≡ writePlateCall listing book buffer

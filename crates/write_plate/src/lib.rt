@@ -21,12 +21,13 @@ ghost use Rattle.listing.specs.Calls.{writePlateCall};
 pub fn write_plate(listing: &[u8], book: &[u8], plate: &mut [u8]) -> Written
     ensures { λ r. ⌜ (writtenAnswer r, now (plate .exit)) ≡ writePlateCall (now (listing .entry)) (now (book .entry)) (now (plate .entry)) ⌝ }
 {
-    match phrases::check_book(book) {
+    let mut index = [0u32; 256];
+    match phrases::check_book(book, &mut index) {
         Book::Bad(line) => Written::Refused(Refusal {
             cause: Cause::Book,
             place: line,
         }),
-        Book::Holds(_) => match lines::check(Form::Listing, book, listing) {
+        Book::Holds(n) => match lines::check(Form::Listing, &index[..n], book, listing) {
             Checked::Refused(r) => Written::Refused(r),
             Checked::Fine { own, instructions } => {
                 match skips::first_past(listing, own, instructions) {
@@ -34,7 +35,14 @@ pub fn write_plate(listing: &[u8], book: &[u8], plate: &mut [u8]) -> Written
                         cause: Cause::Skip,
                         place: line,
                     }),
-                    Past::Nowhere => passes::write(listing, book, own, instructions, plate),
+                    Past::Nowhere => passes::write(
+                        listing,
+                        &index[..n],
+                        book,
+                        own,
+                        instructions,
+                        plate,
+                    ),
                 }
             }
         },

@@ -6,6 +6,7 @@ ghost use Rattle.causes.specs.Answers.{writtenAnswer};
 ghost use Rattle.output.specs.Pour.{poured};
 ghost use Rattle.bits.specs.Bits.{bytesBits, filled};
 ghost use Rattle.phrases.specs.Lookup.{bookTexts};
+ghost use Rattle.phrases.specs.Index.{Indexed};
 ghost use Rattle.plate.specs.Writing.{programBits};
 ghost use Rattle.writer.specs.Plates.{lentPlate};
 ghost use Rattle.write_plate.specs.Accepted.{AcceptedAs, programIn};
@@ -14,8 +15,15 @@ use lines::Form;
 use writer::Room;
 
 // The whole plate of an accepted listing, as far as the buffer goes, and how many bits it has.
-fn produce(out: &mut [u8], book: &[u8], listing: &[u8], own: usize, instructions: usize) -> usize
-    requires { ⌜ (length (now out) ≤ 2953) × (length (bookTexts (now book)) ≤ 65536) × AcceptedAs (now listing) own instructions ⌝ }
+fn produce(
+    out: &mut [u8],
+    index: &[u32],
+    book: &[u8],
+    listing: &[u8],
+    own: usize,
+    instructions: usize,
+) -> usize
+    requires { ⌜ (length (now out) ≤ 2953) × Indexed (now index) (now book) × AcceptedAs (now listing) own instructions ⌝ }
     ensures { λ r. ⌜ (r, bytesBits (now (out .exit))) ≡ poured 0 (filled (programBits (bookTexts (now (book .entry))) (programIn (now (listing .entry)) own))) (bytesBits (now (out .entry))) ⌝ }
 {
     let mut end = writer::put_front(out, listing, own, instructions);
@@ -24,7 +32,7 @@ fn produce(out: &mut [u8], book: &[u8], listing: &[u8], own: usize, instructions
         let e = text::find(listing, a, b'\n');
         let line = &listing[a..e];
         let head = lines::read_line(Form::Listing, line);
-        end = writer::put_line(out, end, head, line, book, listing, own);
+        end = writer::put_line(out, end, head, line, index, book, listing, own);
         a = e + 1;
     }
     writer::put_fill(out, end)
@@ -34,19 +42,27 @@ fn produce(out: &mut [u8], book: &[u8], listing: &[u8], own: usize, instructions
 // written.
 pub fn write(
     listing: &[u8],
+    index: &[u32],
     book: &[u8],
     own: usize,
     instructions: usize,
     plate: &mut [u8],
 ) -> Written
-    requires { ⌜ (length (bookTexts (now book)) ≤ 65536) × AcceptedAs (now listing) own instructions ⌝ }
+    requires { ⌜ Indexed (now index) (now book) × AcceptedAs (now listing) own instructions ⌝ }
     ensures { λ r. ⌜ (writtenAnswer r, now (plate .exit)) ≡ lentPlate (bookTexts (now (book .entry))) (programIn (now (listing .entry)) own) (now (plate .entry)) ⌝ }
 {
-    let bits = produce(&mut [], book, listing, own, instructions);
+    let bits = produce(&mut [], index, book, listing, own, instructions);
     match writer::plate_room(bits, plate.len()) {
         Room::Refused(r) => Written::Refused(r),
         Room::Bytes(length) => {
-            produce(&mut plate[..length], book, listing, own, instructions);
+            produce(
+                &mut plate[..length],
+                index,
+                book,
+                listing,
+                own,
+                instructions,
+            );
             Written::Done(length)
         }
     }

@@ -4,9 +4,11 @@ use native.Mathlib.Omega.{arith}
 use native.Mathlib.Numerals.{add-one}
 use mathlib.Core.Path.{_≡_, refl}
 use mathlib.Core.List.{List, [], _∷_, _++_}
-use lib.ListN.{length, drop, getD, drop-of-length-le, length-take, length-map}
+use lib.ListN.{length, take, drop, getD, drop-of-length-le, length-take, length-map}
 use lib.Seq.{drop-cons}
 use Rattle.bits.specs.Bits.{bitsOf}
+use Rattle.text.specs.Parts.{untilByte, partsFrom, comma}
+use Rattle.text.proofs.Places.{parts-next, parts-none}
 use Rattle.text.specs.Text.{Text}
 use Rattle.phrases.specs.Phrases.{Phrases, width}
 use Rattle.phrases.specs.Lookup.{ownTexts}
@@ -23,15 +25,16 @@ module _ (t : Text) (i : ℕ) where
   unfolding spelledBits
   spelled-end h = rw (drop-of-length-le t h)
 
--- the texts from the place i on
-module _ (c : Phrases) (ts : List Text) (i : ℕ) where
-  pub texts-next : i < length ts → textsBits c (drop i ts) ≡ textBits c (getD ts i []) ++ textsBits c (drop (i + 1) ts)
+-- the fields from the place a on, the first of which ends at e
+module _ (c : Phrases) (line : List ℕ) (a : ℕ) where
+  pub texts-next : (e : ℕ) → a ≤ length line → e ≡ a + untilByte comma (drop a line)
+      → textsBits c (partsFrom comma a line) ≡ textBits c (take (e - a) (drop a line)) ++ textsBits c (partsFrom comma (e + 1) line)
   unfolding textsBits
-  texts-next h = rw (drop-cons ts i [] h, add-one)
+  texts-next e h k = rw (parts-next comma line a e h k)
 
-  pub texts-end : length ts ≤ i → textsBits c (drop i ts) ≡ []
+  pub texts-end : length line < a → textsBits c (partsFrom comma a line) ≡ []
   unfolding textsBits
-  texts-end h = rw (drop-of-length-le ts h)
+  texts-end h = rw (parts-none comma line a h)
 
 -- the bit that says book or own
 module _ (b : ℕ) where

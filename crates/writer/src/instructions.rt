@@ -7,7 +7,8 @@ ghost use Rattle.output.specs.Pour.{poured};
 ghost use Rattle.bits.specs.Bits.{bitsOf, bytesBits};
 ghost use Rattle.text.specs.Parts.{split, comma};
 ghost use Rattle.phrases.specs.Phrases.{Phrases};
-ghost use Rattle.phrases.specs.Lookup.{bookTexts, phrasesIn};
+ghost use Rattle.phrases.specs.Lookup.{phrasesIn};
+ghost use Rattle.phrases.specs.Index.{Listed};
 ghost use Rattle.transcript.specs.Statement.{input, inputs, print, printex};
 ghost use Rattle.plate.specs.Program.{goto, ifSkip};
 ghost use Rattle.plate.specs.Writing.{opCode, textBits, statementBits, instructionBits};
@@ -46,15 +47,16 @@ pub fn put_input(
     at: usize,
     register: usize,
     text: &[u8],
+    index: &[u32],
     book: &[u8],
     own: &[u8],
     count: usize,
 ) -> usize
-    requires { ⌜ (length (now out) ≤ 2953) × (length (bookTexts (now book)) ≤ 65536) × (count ≤ 65536) ⌝ }
+    requires { ⌜ (length (now out) ≤ 2953) × Listed (now index) (now book) (now own) count ⌝ }
     ensures { λ r. ⌜ (r, bytesBits (now (out .exit))) ≡ poured at (statementBits (phrasesIn (now (book .entry)) (now (own .entry)) count) (input register (now (text .entry)))) (bytesBits (now (out .entry))) ⌝ }
 {
     let end = put_code(out, at, 0, register);
-    put_text(out, end, text, book, own, count)
+    put_text(out, end, text, index, book, own, count)
 }
 
 // How many options more than two an `inputs` line has, from field 3 on.
@@ -74,17 +76,18 @@ pub fn put_inputs(
     at: usize,
     register: usize,
     line: &[u8],
+    index: &[u32],
     book: &[u8],
     own: &[u8],
     count: usize,
 ) -> usize
-    requires { ⌜ (length (now out) ≤ 2953) × (length (bookTexts (now book)) ≤ 65536) × (count ≤ 65536) ⌝ }
+    requires { ⌜ (length (now out) ≤ 2953) × Listed (now index) (now book) (now own) count ⌝ }
     ensures { λ r. ⌜ (r, bytesBits (now (out .exit))) ≡ poured at (statementBits (phrasesIn (now (book .entry)) (now (own .entry)) count) (inputs register (getD (split comma (now (line .entry))) 2 []) (drop 3 (split comma (now (line .entry)))))) (bytesBits (now (out .entry))) ⌝ }
 {
     let mut end = put_code(out, at, 1, register);
-    end = put_text(out, end, text::part(line, b',', 2), book, own, count);
+    end = put_text(out, end, text::part(line, b',', 2), index, book, own, count);
     end = bits::put_bits(out, end, 3, options_less_two(line));
-    put_texts(out, end, line, 3, book, own, count)
+    put_texts(out, end, line, 3, index, book, own, count)
 }
 
 // A text that is shown.
@@ -92,15 +95,16 @@ pub fn put_print(
     out: &mut [u8],
     at: usize,
     text: &[u8],
+    index: &[u32],
     book: &[u8],
     own: &[u8],
     count: usize,
 ) -> usize
-    requires { ⌜ (length (now out) ≤ 2953) × (length (bookTexts (now book)) ≤ 65536) × (count ≤ 65536) ⌝ }
+    requires { ⌜ (length (now out) ≤ 2953) × Listed (now index) (now book) (now own) count ⌝ }
     ensures { λ r. ⌜ (r, bytesBits (now (out .exit))) ≡ poured at (statementBits (phrasesIn (now (book .entry)) (now (own .entry)) count) (print (now (text .entry)))) (bytesBits (now (out .entry))) ⌝ }
 {
     let end = bits::put_bits(out, at, 3, 2);
-    put_text(out, end, text, book, own, count)
+    put_text(out, end, text, index, book, own, count)
 }
 
 // A verdict.
@@ -108,15 +112,16 @@ pub fn put_printex(
     out: &mut [u8],
     at: usize,
     text: &[u8],
+    index: &[u32],
     book: &[u8],
     own: &[u8],
     count: usize,
 ) -> usize
-    requires { ⌜ (length (now out) ≤ 2953) × (length (bookTexts (now book)) ≤ 65536) × (count ≤ 65536) ⌝ }
+    requires { ⌜ (length (now out) ≤ 2953) × Listed (now index) (now book) (now own) count ⌝ }
     ensures { λ r. ⌜ (r, bytesBits (now (out .exit))) ≡ poured at (statementBits (phrasesIn (now (book .entry)) (now (own .entry)) count) (printex (now (text .entry)))) (bytesBits (now (out .entry))) ⌝ }
 {
     let end = bits::put_bits(out, at, 3, 3);
-    put_text(out, end, text, book, own, count)
+    put_text(out, end, text, index, book, own, count)
 }
 
 // A goto. The phrases do not matter.

@@ -5,7 +5,8 @@ ghost use lib.ListN.{length};
 ghost use Rattle.output.specs.Pour.{poured};
 ghost use Rattle.bits.specs.Bits.{bytesBits};
 ghost use Rattle.text.specs.Parts.{split, comma};
-ghost use Rattle.phrases.specs.Lookup.{bookTexts, phrasesIn};
+ghost use Rattle.phrases.specs.Lookup.{phrasesIn};
+ghost use Rattle.phrases.specs.Index.{Listed};
 ghost use Rattle.writer.specs.Listing.{lineBits};
 use crate::instructions::put_goto;
 use crate::instructions::put_if;
@@ -21,11 +22,12 @@ pub fn put_line(
     at: usize,
     head: Head,
     line: &[u8],
+    index: &[u32],
     book: &[u8],
     own: &[u8],
     count: usize,
 ) -> usize
-    requires { ⌜ (length (now out) ≤ 2953) × (length (bookTexts (now book)) ≤ 65536) × (count ≤ 65536) ⌝ }
+    requires { ⌜ (length (now out) ≤ 2953) × Listed (now index) (now book) (now own) count ⌝ }
     ensures { λ r. ⌜ (r, bytesBits (now (out .exit))) ≡ poured at (lineBits (phrasesIn (now (book .entry)) (now (own .entry)) count) head (split comma (now (line .entry)))) (bytesBits (now (out .entry))) ⌝ }
 {
     match head {
@@ -34,6 +36,7 @@ pub fn put_line(
             at,
             register,
             text::part(line, b',', 2),
+            index,
             book,
             own,
             count,
@@ -41,9 +44,9 @@ pub fn put_line(
         Head::Inputs {
             register,
             options: _,
-        } => put_inputs(out, at, register, line, book, own, count),
-        Head::Print => put_print(out, at, text::part(line, b',', 1), book, own, count),
-        Head::Printex => put_printex(out, at, text::part(line, b',', 1), book, own, count),
+        } => put_inputs(out, at, register, line, index, book, own, count),
+        Head::Print => put_print(out, at, text::part(line, b',', 1), index, book, own, count),
+        Head::Printex => put_printex(out, at, text::part(line, b',', 1), index, book, own, count),
         Head::Goto { skip } => put_goto(out, at, skip),
         Head::IfSkip { test, skip } => put_if(out, at, test, skip),
         _ => at,

@@ -7,6 +7,7 @@ ghost use Rattle.output.specs.Pour.{poured};
 ghost use Rattle.bits.specs.Bits.{bitsOf, bytesBits};
 ghost use Rattle.text.specs.Parts.{split, comma};
 ghost use Rattle.phrases.specs.Lookup.{bookTexts, ownTexts, phrasesIn};
+ghost use Rattle.phrases.specs.Index.{Listed};
 ghost use Rattle.plate.specs.Writing.{spelledBits, ownBit, textBits, textsBits};
 use phrases::Found;
 
@@ -45,18 +46,19 @@ fn put_source(
     out: &mut [u8],
     at: usize,
     source: usize,
+    index: &[u32],
     book: &[u8],
     own: &[u8],
     count: usize,
 ) -> usize
-    requires { ⌜ length (now out) ≤ 2953 ⌝ }
+    requires { ⌜ (length (now out) ≤ 2953) × Listed (now index) (now book) (now own) count ⌝ }
     ensures { λ r. ⌜ (r, bytesBits (now (out .exit))) ≡ poured at (bitsOf 2 2 ++ ownBit (bookTexts (now (book .entry))) (ownTexts count (now (own .entry))) source) (bytesBits (now (out .entry))) ⌝ }
 {
     let end = bits::put_bits(out, at, 2, 2);
-    if phrases::count_texts(book) == 0 {
+    if index.len() == 0 {
         return end;
     }
-    if count_own(own, count) == 0 {
+    if count == 0 {
         return end;
     }
     bits::put_bits(out, end, 1, source)
@@ -67,21 +69,22 @@ pub fn put_text(
     out: &mut [u8],
     at: usize,
     text: &[u8],
+    index: &[u32],
     book: &[u8],
     own: &[u8],
     count: usize,
 ) -> usize
-    requires { ⌜ (length (now out) ≤ 2953) × (length (bookTexts (now book)) ≤ 65536) × (count ≤ 65536) ⌝ }
+    requires { ⌜ (length (now out) ≤ 2953) × Listed (now index) (now book) (now own) count ⌝ }
     ensures { λ r. ⌜ (r, bytesBits (now (out .exit))) ≡ poured at (textBits (phrasesIn (now (book .entry)) (now (own .entry)) count) (now (text .entry))) (bytesBits (now (out .entry))) ⌝ }
 {
-    match phrases::find_phrase(book, own, count, text) {
+    match phrases::find_phrase(index, book, own, count, text) {
         Found::InBook(i) => {
-            let end = put_source(out, at, 0, book, own, count);
-            bits::put_bits(out, end, phrases::width_of(phrases::count_texts(book)), i)
+            let end = put_source(out, at, 0, index, book, own, count);
+            bits::put_bits(out, end, phrases::width_of(index.len()), i)
         }
         Found::InOwn(i) => {
-            let end = put_source(out, at, 1, book, own, count);
-            bits::put_bits(out, end, phrases::width_of(count_own(own, count)), i)
+            let end = put_source(out, at, 1, index, book, own, count);
+            bits::put_bits(out, end, phrases::width_of(count), i)
         }
         Found::Nowhere => {
             let end = bits::put_bits(out, at, 2, 0);
@@ -96,19 +99,20 @@ pub fn put_texts(
     at: usize,
     line: &[u8],
     k: usize,
+    index: &[u32],
     book: &[u8],
     own: &[u8],
     count: usize,
 ) -> usize
-    requires { ⌜ (length (now out) ≤ 2953) × (length (bookTexts (now book)) ≤ 65536) × (count ≤ 65536) ⌝ }
+    requires { ⌜ (length (now out) ≤ 2953) × Listed (now index) (now book) (now own) count ⌝ }
     ensures { λ r. ⌜ (r, bytesBits (now (out .exit))) ≡ poured at (textsBits (phrasesIn (now (book .entry)) (now (own .entry)) count) (drop k (split comma (now (line .entry))))) (bytesBits (now (out .entry))) ⌝ }
 {
-    let n = text::count_parts(line, b',');
     let mut end = at;
-    let mut i = k;
-    while i < n {
-        end = put_text(out, end, text::part(line, b',', i), book, own, count);
-        i += 1;
+    let mut a = text::part_start(line, b',', k);
+    while a <= line.len() {
+        let e = text::find(line, a, b',');
+        end = put_text(out, end, &line[a..e], index, book, own, count);
+        a = e + 1;
     }
     end
 }

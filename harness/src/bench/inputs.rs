@@ -133,3 +133,12 @@ pub fn own_phrases() -> Vec<u8> {
     let print = format!("print,{}\n", long_phrase(MAX_OWN - 1));
     (phrases + &print.repeat(160)).into_bytes()
 }
+
+/// Questions in the innermost of 16 levels, one for a number and one with 8 options, and in front of each level.
+pub fn asked_within() -> Vec<u8> {
+    let ask = "input,1,Volts\ninputs,2,Lamp,a,b,c,d,e,f,g,h\n";
+    let levels = |text: &str| text.repeat(MAX_LEVELS);
+    [levels(&format!("{ask}if,0,eq,0\n")), ask.repeat(8), levels("else\nprint,a\nfi\n")]
+        .concat()
+        .into_bytes()
+}

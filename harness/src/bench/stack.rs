@@ -15,11 +15,13 @@ const STACK: usize = 4 << 20;
 const PAINT: u8 = 0xA5;
 
 /// The inputs on which a call goes deepest or keeps most.
-fn subjects() -> [(&'static str, Subject); 7] {
+fn subjects() -> [(&'static str, Subject); 8] {
     let answers = vec![0; MAX_INSTRUCTIONS];
     let no_book = |guide| Subject::of_guide(guide, Vec::new(), Vec::new());
     let full = Subject::of_guide(spelled(), long_book(MAX_BOOK), answers.clone());
     let options = Subject::of_guide(large_guide(), mixed_book(), answers);
+    let long_answers = [i32::MIN, 7].repeat(MAX_INSTRUCTIONS / 2);
+    let asked = Subject::of_guide(asked_within(), long_book(MAX_BOOK), long_answers);
     [
         ("empty guide", no_book(Vec::new())),
         ("511 prints", no_book(prints(511))),
@@ -28,6 +30,7 @@ fn subjects() -> [(&'static str, Subject); 7] {
         ("plate of 2,953 bytes, full book", full),
         ("32 own phrases of 64 bytes", no_book(own_phrases())),
         ("192 inputs of 8 options, 320 prints", options),
+        ("questions in 16 levels, full book", asked),
     ]
 }
 

@@ -1,46 +1,62 @@
--- `bits::put_bits` meets its contract: of the bits, those that have room are stored. Assumes nothing.
+-- `bits::put_bits` meets its contract: behind the end, in one byte, or in more. Assumes nothing.
 use borrow.Author.Needs.{needs}
-use Rattle.bits.proofs.Writing.{room-written}
+use Rattle.bits.proofs.Turns.{one-written}
+use Rattle.bits.proofs.Writing.{all-written, none-written}
 use Rattle.bits.proofs.put_bits.Statement.{statement}
 use Rattle.bits.proofs.put_bits.Tie as tie
-
-room-requires : tie.Need-room-requires
-room-requires c κs = search needs
-
-sub-two-to : tie.Need-sub-two-to
-sub-two-to c = search needs
-
-two-to-requires : tie.Need-two-to-requires
-two-to-requires c κs = search needs
-
-div-store : tie.Need-div-store
-div-store c = search needs
-
-store-requires : tie.Need-store-requires
-store-requires c κs = search needs
 
 sum-requires : tie.Need-sum-requires
 sum-requires c κs = search needs
 
+returns : tie.Need-returns
+returns c =
+    let a = c .before .before .before .args in
+    all-written (a .out .now) _ (a .at) (a .width) (a .value) _ (none-written _ (a .at) _ (c .if1 .taken)) (c .before .sum .ensures)
+
+add-if2 : tie.Need-add-if2
+add-if2 c = search needs
+
+slice-read-with-field : tie.Need-slice-read-with-field
+slice-read-with-field c = search needs
+
+with-field-requires : tie.Need-with-field-requires
+with-field-requires c κs = search needs
+
+slice-write-out : tie.Need-slice-write-out
+slice-write-out c = search needs
+
+put-bytes-requires : tie.Need-put-bytes-requires
+put-bytes-requires c κs = search needs
+
 same-length : tie.Need-same-length
 same-length c = search needs
 
-returns : tie.Need-returns
-returns c =
+returns-2 : tie.Need-returns-2
+returns-2 c =
+    let a = c .before .before .before .before .before .before .args in
+    let one = one-written (a .out .now) (a .at) (a .width) (a .value) _ (c .with-field .ensures) (c .before .before .before .if1 .left) (c .before .before .if2 .taken) in
+    all-written (a .out .now) _ (a .at) (a .width) (a .value) _ one (c .before .before .before .before .sum .ensures)
+
+same-length-2 : tie.Need-same-length-2
+same-length-2 c = search needs
+
+returns-3 : tie.Need-returns-3
+returns-3 c =
     let a = c .before .before .before .before .before .before .before .before .args in
-    let s = c .before .before .before .store in
-    room-written (a .out .now) (s .last .0) (a .at) (a .width) (a .value) _ _ _ (s .ensures)
-    (c .before .before .before .before .two-to .ensures .0) (c .before .before .before .before .before .before .room .ensures) (c .sum .ensures)
+    all-written (a .out .now) _ (a .at) (a .width) (a .value) _ (c .before .before .put-bytes .ensures) (c .before .before .before .before .before .before .sum .ensures)
 
 pub put-bits-spec : {M : Type 1} → statement M
 put-bits-spec =
     tie.close
     (tie.spec
-    room-requires
-    sub-two-to
-    two-to-requires
-    div-store
-    store-requires
     sum-requires
+    returns
+    add-if2
+    slice-read-with-field
+    with-field-requires
+    slice-write-out
+    put-bytes-requires
     same-length
-    returns)
+    returns-2
+    same-length-2
+    returns-3)

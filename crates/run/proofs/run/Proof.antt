@@ -1,85 +1,120 @@
-use mathlib.Core.Path.{refl, sym, _∙_}
+-- `run` meets its contract: the book's refusal, the plate's, short scratch, or what the two passes leave.
 use native.Mathlib.Omega.{arith}
-use Rattle.run.proofs.Called.{call-book, few-phrases, call-plate, accepted, call-scratch, call-run}
+use mathlib.Core.Path.{refl, sym, _∙_}
+use lib.Seq.{length-take-le}
 use borrow.Author.Needs.{needs}
+use Rattle.phrases.proofs.Answers.{book-few}
+use Rattle.run.proofs.Called.{call-book, call-plate, accepted, call-scratch, call-run}
 use Rattle.run.proofs.run.Statement.{statement}
 use Rattle.run.proofs.run.Tie as tie
-use Rattle.run.proofs.run.Reads as reads
-use Rattle.run.proofs.run.Lts as lts
-use Rattle.phrases.proofs.check_book.Reads as check-book-reads
-use Rattle.reader.proofs.read_contents.Reads as read-contents-reads
-use Rattle.run.proofs.passes.write.Reads as write-reads
 
--- src/lib.rt:40:30
+slice-aggregate-check-book : tie.Need-slice-aggregate-check-book
+slice-aggregate-check-book c = search needs
+
 check-book-requires : tie.Need-check-book-requires
 check-book-requires c κs = search needs
 
--- src/lib.rt:40:22
 enum-known-line : tie.Need-enum-known-line
 enum-known-line c = search needs
 
--- src/lib.rt:41:9
-returns : tie.Need-returns
-returns c = (call-book _ _ _ _ _ _ (sym (c .before .before .before .check-book .ensures) ∙ c .before .line .given .1), refl)
+enum-known-n : tie.Need-enum-known-n
+enum-known-n c = search needs
 
-enum-told : tie.Need-enum-told
-enum-told c = search needs
+array-share-prefix-index : tie.Need-array-share-prefix-index
+array-share-prefix-index c =
+    let n = c .before in
+    let book = sym (n .before .before .before .check-book .ensures .0) ∙ n .n .given .1 in
+    omega (arith, book-few _ book, n .before .before .index2 .given)
 
--- src/lib.rt:47:46
 slice-aggregate-read-contents : tie.Need-slice-aggregate-read-contents
-slice-aggregate-read-contents c = search needs
+slice-aggregate-read-contents c =
+    let n = c .before .before in
+    let book = sym (n .before .before .before .check-book .ensures .0) ∙ n .n .given .1 in
+    sym (length-take-le _ _ (omega (arith, book-few _ book, n .before .before .index2 .given)))
 
--- src/lib.rt:47:11
+slice-aggregate-read-contents-2 : tie.Need-slice-aggregate-read-contents-2
+slice-aggregate-read-contents-2 c = search needs
+
 read-contents-requires : tie.Need-read-contents-requires
-read-contents-requires c κs = (few-phrases _ _ (sym (c .before .before .before .check-book .ensures) ∙ c .before .enum-told .given .1), search needs)
+read-contents-requires c κs =
+    let n = c .before .before .before in
+    (n .before .before .before .check-book .ensures .1 _ (n .n .given .1), search needs)
 
--- src/lib.rt:48:28
 enum-known-r : tie.Need-enum-known-r
 enum-known-r c = search needs
 
--- src/lib.rt:49:26
 enum-known-c : tie.Need-enum-known-c
 enum-known-c c = search needs
 
--- src/lib.rt:51:17
-returns-2 : tie.Need-returns-2
-returns-2 c = (call-scratch _ _ _ _ (sym (c .before .before .before .before .before .before .before .before .before .check-book .ensures) ∙ c .before .before .before .before .before .before .before .enum-told .given .1) _ (c .before .before .before .before .before .read-contents .ensures .0) _ _ _ _ (c .before .before .c .given .1) (omega arith), refl)
+returns : tie.Need-returns
+returns c =
+    let n = c .before .before .before .before .before .before .before .before .before in
+    let book = sym (n .before .before .before .check-book .ensures .0) ∙ n .n .given .1 in
+    let read = c .before .before .before .before .before .read-contents .ensures .0 in
+    (call-scratch _ _ _ _ book _ read _ _ _ _ (c .before .before .c .given .1) (c .if1 .taken), refl)
 
--- src/lib.rt:56:40
+array-share-prefix-index-2 : tie.Need-array-share-prefix-index-2
+array-share-prefix-index-2 c =
+    let n = c .before .before .before .before .before .before .before .before .before in
+    let book = sym (n .before .before .before .check-book .ensures .0) ∙ n .n .given .1 in
+    omega (arith, book-few _ book, n .before .before .index2 .given)
+
 slice-aggregate-write : tie.Need-slice-aggregate-write
-slice-aggregate-write c = search needs
+slice-aggregate-write c =
+    let n = c .before .before .before .before .before .before .before .before .before .before in
+    let book = sym (n .before .before .before .check-book .ensures .0) ∙ n .n .given .1 in
+    sym (length-take-le _ _ (omega (arith, book-few _ book, n .before .before .index2 .given)))
 
--- src/lib.rt:56:13
+slice-aggregate-write-2 : tie.Need-slice-aggregate-write-2
+slice-aggregate-write-2 c = search needs
+
 write-requires : tie.Need-write-requires
-write-requires c κs = accepted _ _ _ _ (sym (c .before .before .before .before .before .before .before .before .before .before .before .check-book .ensures) ∙ c .before .before .before .before .before .before .before .before .before .enum-told .given .1) _ (c .before .before .before .before .before .before .before .read-contents .ensures .0) _ (c .before .before .before .before .c .given .1) (c .before .before .before .before .before .before .before .read-contents .ensures .1)
+write-requires c κs =
+    let n = c .before .before .before .before .before .before .before .before .before .before .before .before in
+    let book = sym (n .before .before .before .check-book .ensures .0) ∙ n .n .given .1 in
+    let read = c .before .before .before .before .before .before .before .before in
+    accepted _ _ _ _ book _ (read .read-contents .ensures .0) _ _ (c .before .before .before .before .before .c .given .1) (read .read-contents .ensures .1)
 
--- src/lib.rt:30:1
+returns-2 : tie.Need-returns-2
+returns-2 c =
+    (call-book _ _ _ _ _ _ (sym (c .before .before .before .before .check-book .ensures .0) ∙ c .before .line .given .1), refl)
+
 returns-3 : tie.Need-returns-3
-returns-3 c = (call-plate _ _ _ _ (sym (c .before .before .before .before .before .before .before .before .check-book .ensures) ∙ c .before .before .before .before .before .before .enum-told .given .1) _ (c .before .before .before .before .read-contents .ensures .0) _ _ _ _ (c .before .r .given .1), refl)
+returns-3 c =
+    let n = c .before .before .before .before .before .before .before .before in
+    let book = sym (n .before .before .before .check-book .ensures .0) ∙ n .n .given .1 in
+    (call-plate _ _ _ _ book _ (c .before .before .before .before .read-contents .ensures .0) _ _ _ _ (c .before .r .given .1), refl)
 
--- src/lib.rt:30:1
 same-length : tie.Need-same-length
 same-length c = search needs
 
--- src/lib.rt:30:1
 returns-4 : tie.Need-returns-4
-returns-4 c = (call-run _ _ _ _ (sym (c .before .before .before .before .before .before .before .before .before .before .before .before .before .before .check-book .ensures) ∙ c .before .before .before .before .before .before .before .before .before .before .before .before .enum-told .given .1) _ (c .before .before .before .before .before .before .before .before .before .before .read-contents .ensures .0) _ _ _ _ _ (c .before .before .before .before .before .before .before .c .given .1) (omega arith) (c .before .before .write .ensures), refl)
+returns-4 c =
+    let n = c .before .before .before .before .before .before .before .before .before .before .before .before .before .before .before in
+    let book = sym (n .before .before .before .check-book .ensures .0) ∙ n .n .given .1 in
+    let read = c .before .before .before .before .before .before .before .before .before .before .before .read-contents .ensures .0 in
+    (call-run _ _ _ _ book _ read _ _ _ _ _ (c .before .before .before .before .before .before .before .before .c .given .1) (c .before .before .before .before .before .before .if1 .left) (c .before .before .write .ensures), refl)
 
 pub run-spec : {M : Type 1} → statement M
 run-spec =
     tie.close
     (tie.spec
+    slice-aggregate-check-book
     check-book-requires
     enum-known-line
-    returns
-    enum-told
+    enum-known-n
+    array-share-prefix-index
     slice-aggregate-read-contents
+    slice-aggregate-read-contents-2
     read-contents-requires
     enum-known-r
     enum-known-c
-    returns-2
+    returns
+    array-share-prefix-index-2
     slice-aggregate-write
+    slice-aggregate-write-2
     write-requires
+    returns-2
     returns-3
     same-length
     returns-4)

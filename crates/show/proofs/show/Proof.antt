@@ -1,5 +1,4 @@
 -- `show` meets its contract: the refusal of the guide is its line; else the plate stands at the front of one buffer and its listing at the front of the other.
-use native.Mathlib.Omega.{arith}
 use Rattle.show.proofs.Shown.{turned-down, taken, never-refused, listed}
 use borrow.Author.Needs.{needs}
 use Rattle.show.proofs.show.Statement.{statement}
@@ -18,7 +17,7 @@ enum-known-r : tie.Need-enum-known-r
 enum-known-r c = search needs
 
 put-refused-requires : tie.Need-put-refused-requires
-put-refused-requires c κs = omega (arith, turned-down _ _ _ (c .before .before .before .before .before .translate .ensures) (c .before .before .r .given .1) (search needs) .small)
+put-refused-requires c κs = search needs
 
 enum-known-length : tie.Need-enum-known-length
 enum-known-length c = search needs

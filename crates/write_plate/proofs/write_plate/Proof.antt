@@ -1,9 +1,15 @@
 -- `write_plate` meets its contract: the book's refusal, the listing's, a skip's, or what the two passes leave.
+use native.Mathlib.Omega.{arith}
 use mathlib.Core.Path.{sym, _∙_}
+use lib.Seq.{length-take-le}
 use borrow.Author.Needs.{needs}
-use Rattle.write_plate.proofs.Call.{call-book, book-few, call-listing, call-skip, call-written}
+use Rattle.phrases.proofs.Answers.{book-few}
+use Rattle.write_plate.proofs.Call.{call-book, call-listing, call-skip, call-written}
 use Rattle.write_plate.proofs.write_plate.Statement.{statement}
 use Rattle.write_plate.proofs.write_plate.Tie as tie
+
+slice-aggregate-check-book : tie.Need-slice-aggregate-check-book
+slice-aggregate-check-book c = search needs
 
 check-book-requires : tie.Need-check-book-requires
 check-book-requires c κs = search needs
@@ -11,11 +17,22 @@ check-book-requires c κs = search needs
 enum-known-line : tie.Need-enum-known-line
 enum-known-line c = search needs
 
-enum-told : tie.Need-enum-told
-enum-told c = search needs
+enum-known-n : tie.Need-enum-known-n
+enum-known-n c = search needs
+
+array-share-prefix-index : tie.Need-array-share-prefix-index
+array-share-prefix-index c =
+    let few = book-few _ (sym (c .before .before .before .before .check-book .ensures .0) ∙ c .before .n .given .1) in
+    omega (arith, few, c .before .before .before .index2 .given)
+
+slice-aggregate-check : tie.Need-slice-aggregate-check
+slice-aggregate-check c =
+    let few = book-few _ (sym (c .before .before .before .before .before .check-book .ensures .0) ∙ c .before .before .n .given .1) in
+    sym (length-take-le _ _ (omega (arith, few, c .before .before .before .before .index2 .given)))
 
 check-requires : tie.Need-check-requires
-check-requires c κs = search needs
+check-requires c κs =
+    c .before .before .before .before .before .check-book .ensures .1 _ (c .before .before .n .given .1)
 
 enum-known-r : tie.Need-enum-known-r
 enum-known-r c = search needs
@@ -24,34 +41,53 @@ enum-known-own : tie.Need-enum-known-own
 enum-known-own c = search needs
 
 first-past-requires : tie.Need-first-past-requires
-first-past-requires c κs = record { book = _; checked = sym (c .before .before .before .check .ensures) ∙ c .before .own .given .1 }
+first-past-requires c κs =
+    record { book = _; checked = sym (c .before .before .before .check .ensures) ∙ c .before .own .given .1 }
 
 enum-known-line-2 : tie.Need-enum-known-line-2
 enum-known-line-2 c = search needs
 
-enum-told-2 : tie.Need-enum-told-2
-enum-told-2 c = search needs
+enum-told : tie.Need-enum-told
+enum-told c = search needs
+
+array-share-prefix-index-2 : tie.Need-array-share-prefix-index-2
+array-share-prefix-index-2 c =
+    let book = c .before .before .before .before .before .before .before .before .before in
+    let few = book-few _ (sym (book .before .before .before .check-book .ensures .0) ∙ book .n .given .1) in
+    omega (arith, few, book .before .before .index2 .given)
+
+slice-aggregate-write : tie.Need-slice-aggregate-write
+slice-aggregate-write c =
+    let book = c .before .before .before .before .before .before .before .before .before .before in
+    let few = book-few _ (sym (book .before .before .before .check-book .ensures .0) ∙ book .n .given .1) in
+    sym (length-take-le _ _ (omega (arith, few, book .before .before .index2 .given)))
 
 write-requires : tie.Need-write-requires
 write-requires c κs =
-    let check = c .before .before .before .before .before .before .before in
-    let book = sym (check .before .before .before .check-book .ensures) ∙ check .before .enum-told .given .1 in
-    (book-few _ book, record { book = _; checked = sym (check .check .ensures) ∙ c .before .before .before .before .before .own .given .1 })
+    let own = c .before .before .before .before .before .before in
+    let book = own .before .before .before .before .before in (
+      book .before .before .before .check-book .ensures .1 _ (book .n .given .1),
+      record { book = _; checked = sym (own .before .before .check .ensures) ∙ own .own .given .1 },
+    )
 
 returns : tie.Need-returns
-returns c = call-book _ _ _ _ (sym (c .before .before .before .check-book .ensures) ∙ c .before .line .given .1)
+returns c =
+    call-book _ _ _ _ (sym (c .before .before .before .before .check-book .ensures .0) ∙ c .before .line .given .1)
 
 returns-2 : tie.Need-returns-2
 returns-2 c =
     let check = c .before .before .before in
-    let book = sym (check .before .before .before .check-book .ensures) ∙ check .before .enum-told .given .1 in
+    let n = check .before .before .before in
+    let book = sym (n .before .before .before .check-book .ensures .0) ∙ n .n .given .1 in
     call-listing _ _ _ book _ (sym (check .check .ensures) ∙ c .before .r .given .1)
 
 returns-3 : tie.Need-returns-3
 returns-3 c =
-    let check = c .before .before .before .before .before .before .before in
-    let book = sym (check .before .before .before .check-book .ensures) ∙ check .before .enum-told .given .1 in
-    let listing = sym (check .check .ensures) ∙ c .before .before .before .before .before .own .given .1 in
+    let own = c .before .before .before .before .before in
+    let check = own .before .before in
+    let n = check .before .before .before in
+    let book = sym (n .before .before .before .check-book .ensures .0) ∙ n .n .given .1 in
+    let listing = sym (check .check .ensures) ∙ own .own .given .1 in
     call-skip _ _ _ book listing _ (sym (c .before .before .before .first-past .ensures) ∙ c .before .line2 .given .1)
 
 same-length : tie.Need-same-length
@@ -59,24 +95,32 @@ same-length c = search needs
 
 returns-4 : tie.Need-returns-4
 returns-4 c =
-    let check = c .before .before .before .before .before .before .before .before .before .before in
-    let book = sym (check .before .before .before .check-book .ensures) ∙ check .before .enum-told .given .1 in
-    let listing = sym (check .check .ensures) ∙ c .before .before .before .before .before .before .before .before .own .given .1 in
-    call-written _ _ _ book listing _ (sym (c .before .before .before .before .before .before .first-past .ensures) ∙ c .before .before .before .before .enum-told2 .given .1) (c .before .before .write .ensures)
+    let told = c .before .before .before .before .before in
+    let own = told .before .before .before .before in
+    let check = own .before .before in
+    let n = check .before .before .before in
+    let book = sym (n .before .before .before .check-book .ensures .0) ∙ n .n .given .1 in
+    let listing = sym (check .check .ensures) ∙ own .own .given .1 in
+    call-written _ _ _ book listing _ (sym (told .before .before .first-past .ensures) ∙ told .enum-told .given .1) (c .before .before .write .ensures)
 
 pub write-plate-spec : {M : Type 1} → statement M
 write-plate-spec =
     tie.close
     (tie.spec
+    slice-aggregate-check-book
     check-book-requires
     enum-known-line
-    enum-told
+    enum-known-n
+    array-share-prefix-index
+    slice-aggregate-check
     check-requires
     enum-known-r
     enum-known-own
     first-past-requires
     enum-known-line-2
-    enum-told-2
+    enum-told
+    array-share-prefix-index-2
+    slice-aggregate-write
     write-requires
     returns
     returns-2

@@ -5,6 +5,7 @@ use crate::cases::{book_of, lines, text, word};
 use crate::generate::words::{fresh_text, Words};
 use crate::phrases::List;
 use crate::rng::Rng;
+use crate::text::LF;
 
 const SEED: u64 = 0x5EED_0013;
 const RANDOM: usize = 150;
@@ -24,7 +25,7 @@ pub fn collect() -> Vec<Case> {
     lengths(&mut cases);
     random(&mut rng, &mut cases);
     widths(&mut cases);
-    counts(&mut cases);
+    collisions(&mut cases);
     cases
 }
 
@@ -133,7 +134,6 @@ fn random(rng: &mut Rng, cases: &mut Vec<Case>) {
         }
         left -= 1;
         cases.push(Case::Check { book: book.clone() });
-        cases.push(Case::Count { book: book.clone() });
         let count = words.own.len() as u64;
         let text = if rng.once_in(4) { fresh_text(rng, true) } else { words.text(rng) };
         cases.push(Case::Find { book: book.clone(), own: own.clone(), count, text });
@@ -151,12 +151,18 @@ fn widths(cases: &mut Vec<Case>) {
     cases.extend([65_535, 65_536].map(|count| Case::Width { count }));
 }
 
-fn counts(cases: &mut Vec<Case>) {
-    cases.extend(books::small(4).into_iter().map(|book| Case::Count { book }));
-    for count in [255, 256, 257, 600] {
-        cases.push(Case::Count { book: book_of(count) });
-        cases.push(Case::Count { book: vec![b'\n'; count] });
-        cases.push(Case::Count { book: [book_of(count), b"A".to_vec()].concat() });
+/// Texts whose bytes, each times its place from 1, have the same sum, or sums
+/// that differ by 65,536, among the phrases and looked for.
+fn collisions(cases: &mut Vec<Case>) {
+    let long = |first: usize, last: u8| [vec![b'~'; first], vec![last; 64 - first]].concat();
+    let texts = [b"cb".to_vec(), b"ac".to_vec(), b"ea".to_vec(), b"g`".to_vec(), [vec![b'}'; 63], vec![b'~']].concat(), long(63, b'}')];
+    for left_out in 0..texts.len() {
+        let mut book: Vec<_> = texts.to_vec();
+        book.remove(left_out);
+        let book: Vec<u8> = book.into_iter().flat_map(|text| [text, vec![LF]].concat()).collect();
+        for text in &texts {
+            let (book, own) = (book.clone(), b"phrase,ea\n".to_vec());
+            cases.push(Case::Find { book, own, count: 1, text: text.clone() });
+        }
     }
-    cases.push(Case::Count { book: b"a,b\n,\n,c".to_vec() });
 }

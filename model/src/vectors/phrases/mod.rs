@@ -21,8 +21,6 @@ pub enum Case {
     Text { book: Vec<u8>, own: Vec<u8>, list: List, place: u64 },
     /// The width of a place among so many phrases.
     Width { count: usize },
-    /// How many lines of a book end in LF.
-    Count { book: Vec<u8> },
 }
 
 impl Case {
@@ -51,20 +49,20 @@ impl Case {
                 stdin::number(out, 3);
                 stdin::number(out, *count);
             }
-            Case::Count { book } => {
-                stdin::number(out, 4);
-                stdin::slice(out, book);
-            }
         }
     }
 
-    /// The line that the program writes.
+    /// The line that the program writes. A lookup in a bad book is answered with
+    /// the book's first bad line.
     pub fn answer(&self) -> String {
         let line = match self {
             Case::Check { book } => match Phrases::of_book(book) {
                 Ok(phrases) => format!("Y,{}", phrases.list(List::Book).len()),
                 Err(refusal) => format!("N,{}", refusal.place),
             },
+            Case::Find { book, .. } | Case::Text { book, .. } if bad_line(book).is_some() => {
+                format!("N,{}", bad_line(book).unwrap_or_default())
+            }
             Case::Find { book, own, count, text } => match find(book, own, *count, text) {
                 Some((list, place)) => format!("Y,{},{place}", list as usize),
                 None => "N".to_owned(),
@@ -74,10 +72,14 @@ impl Case {
                 List::Own => part(part(own, LF, *place), b',', 1),
             }),
             Case::Width { count } => place_width((*count).max(1)).to_string(),
-            Case::Count { book } => texts(book).len().to_string(),
         };
         line + "\n"
     }
+}
+
+/// The first bad line of a book.
+fn bad_line(book: &[u8]) -> Option<usize> {
+    Phrases::of_book(book).err().map(|refusal| refusal.place)
 }
 
 /// The part with this number, from 0, between the bytes `by`; empty past the last.

@@ -1,4 +1,4 @@
--- `put_characters` meets its contract. The loop's invariant: i characters are passed and written. The measure is what is left of them.
+-- `put_characters` meets its contract. Where the buffer has no room the characters are counted only. The loop's invariant: i characters are passed and written. The measure is what is left of them.
 use Prim.Native.Nat.{_-_, _≤_}
 use mathlib.Core.Path.{_≡_}
 use native.Mathlib.Omega.{arith}
@@ -9,6 +9,7 @@ use Rattle.output.proofs.Pour.{none, then, kept}
 use Rattle.bits.specs.Bits.{bytesBits}
 use Rattle.fields.specs.Places.{charactersIn}
 use Rattle.fields.proofs.CharacterBits.{Passed, passed-none, passed-more, passed-character}
+use Rattle.fields.proofs.Copied.{unwritten}
 use Rattle.fields.proofs.spelling.put_characters.Statement.{statement}
 use Rattle.fields.proofs.spelling.put_characters.Tie as tie
 
@@ -18,6 +19,12 @@ Inv-loop plate bit size out₀ at end₀ place₀ i₀ out end place i =
 
 abbrev μ-loop : tie.MeasureT-loop
 μ-loop plate bit size out₀ at end₀ place₀ i₀ out end place i = size - i
+
+sum-requires : tie.Need-sum-requires Inv-loop μ-loop
+sum-requires c κs = search needs
+
+returns : tie.Need-returns Inv-loop μ-loop
+returns c = unwritten _ _ _ _ _ (c .before .if1 .taken) (c .sum .ensures)
 
 loop-holds : tie.Need-loop-holds Inv-loop μ-loop
 unfolding charactersIn
@@ -29,8 +36,8 @@ character-at-requires c κs = search needs
 put-byte-requires : tie.Need-put-byte-requires Inv-loop μ-loop
 put-byte-requires c κs = search needs
 
-sum-requires : tie.Need-sum-requires Inv-loop μ-loop
-sum-requires c κs = search needs
+sum-requires-2 : tie.Need-sum-requires-2 Inv-loop μ-loop
+sum-requires-2 c κs = search needs
 
 add-i : tie.Need-add-i Inv-loop μ-loop
 add-i c = search needs
@@ -44,14 +51,14 @@ loop-again c = let l = c .before .before .before .before .before .before .before
       rw (passed-character (l .inv .2) _ (c .before .before .before .before .character-at .ensures)) at e,
       search needs,
       passed-more
-          (l .inv .2) _ (search needs) (c .sum .ensures),
+          (l .inv .2) _ (search needs) (c .sum2 .ensures),
     )
 
 same-length : tie.Need-same-length Inv-loop μ-loop
 same-length c = kept _ _ _ _ _ (c .before .loop .inv .0)
 
-returns : tie.Need-returns Inv-loop μ-loop
-returns c = let k : c .before .loop .i ≡ c .before .before .before .before .args .size = omega arith in rw k at (c .before .loop .inv .0)
+returns-2 : tie.Need-returns-2 Inv-loop μ-loop
+returns-2 c = let k : c .before .loop .i ≡ c .before .before .before .before .before .args .size = omega arith in rw k at (c .before .loop .inv .0)
 
 pub put-characters-spec : {M : Type 1} → statement M
 put-characters-spec =
@@ -59,12 +66,14 @@ put-characters-spec =
     (tie.spec
     Inv-loop
     μ-loop
+    sum-requires
+    returns
     loop-holds
     character-at-requires
     put-byte-requires
-    sum-requires
+    sum-requires-2
     add-i
     loop-less
     loop-again
     same-length
-    returns)
+    returns-2)

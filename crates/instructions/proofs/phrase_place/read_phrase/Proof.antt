@@ -3,12 +3,9 @@ use mathlib.Core.Path.{refl, sym, _∙_}
 use borrow.Author.Needs.{needs}
 use Rattle.fields.proofs.Onward.{then-got, then-stopped}
 use Rattle.fields.proofs.Answers.{field-got, field-stopped}
-use Rattle.instructions.proofs.PhraseRead.{own-there, book-there, only-own, only-book, both, bit-book, bit-own}
+use Rattle.instructions.proofs.PhraseRead.{book-count, own-there, book-there, only-own, only-book, both, bit-book, bit-own}
 use Rattle.instructions.proofs.phrase_place.read_phrase.Statement.{statement}
 use Rattle.instructions.proofs.phrase_place.read_phrase.Tie as tie
-
-count-texts-requires : tie.Need-count-texts-requires
-count-texts-requires c κs = search needs
 
 read-place-requires : tie.Need-read-place-requires
 read-place-requires c κs = search needs
@@ -20,7 +17,7 @@ returns : tie.Need-returns
 returns c = let a = c .before .before .before .before .before .before .before .args in
     own-there (a .plate .now) (a .book .now) (a .own .now) (a .at) (a .count) (a .count) (c .before .read-place .result) _
     (c .before .read-place .ensures) (c .before .before .before .before .before .before .before .pre .0 .whole) refl (c .phrase-of .ensures)
-    ∙ only-own _ _ _ (sym (c .before .before .before .count-texts .ensures) ∙ c .before .before .if1 .taken)
+    ∙ only-own _ _ _ (sym (book-count (c .before .before .before .before .before .before .before .pre .0)) ∙ c .before .before .if1 .taken)
 
 read-place-requires-2 : tie.Need-read-place-requires-2
 read-place-requires-2 c κs = search needs
@@ -31,8 +28,8 @@ phrase-of-requires-2 c κs = search needs
 returns-2 : tie.Need-returns-2
 returns-2 c = let a = c .before .before .before .before .before .before .before .before .args in
     book-there (a .plate .now) (a .book .now) (a .own .now) (a .at) (a .count) _ (c .before .read-place2 .result) _
-    (c .before .read-place2 .ensures) (c .before .before .before .before .count-texts .ensures) (c .phrase-of2 .ensures)
-    ∙ only-book _ _ _ (λ z. c .before .before .before .if1 .left (c .before .before .before .before .count-texts .ensures ∙ z))
+    (c .before .read-place2 .ensures) (book-count (c .before .before .before .before .before .before .before .before .pre .0)) (c .phrase-of2 .ensures)
+    ∙ only-book _ _ _ (λ z. c .before .before .before .if1 .left (book-count (c .before .before .before .before .before .before .before .before .pre .0) ∙ z))
     (c .before .before .before .before .before .before .before .before .pre .0 .whole ∙ c .before .before .if2 .taken)
 
 read-plain-requires : tie.Need-read-plain-requires
@@ -51,7 +48,7 @@ returns-3 : tie.Need-returns-3
 returns-3 c = let two =
     both _ _ _
     (λ z. c .before .before .before .before .before .if1 .left
-    (c .before .before .before .before .before .before .count-texts .ensures ∙ z))
+    (book-count (c .before .before .before .before .before .before .before .before .before .before .pre .0) ∙ z))
     (λ z. c .before .before .before .before .if2 .left
     (sym (c .before .before .before .before .before .before .before .before .before .before .pre .0 .whole) ∙ z)) in
     then-stopped _ _ _
@@ -68,12 +65,12 @@ returns-4 c = let a = c .before .before .before .before .before .before .before 
     let two =
     both _ _ _
     (λ z. c .before .before .before .before .before .before .before .before .if1 .left
-    (c .before .before .before .before .before .before .before .before .before .count-texts .ensures ∙ z))
+    (book-count (c .before .before .before .before .before .before .before .before .before .before .before .before .before .pre .0) ∙ z))
     (λ z. c .before .before .before .before .before .before .before .if2 .left
     (sym (c .before .before .before .before .before .before .before .before .before .before .before .before .before .pre .0 .whole)
     ∙ z)) in
     book-there (a .plate .now) (a .book .now) (a .own .now) _ (a .count) _ (c .before .read-place3 .result) _
-    (c .before .read-place3 .ensures) (c .before .before .before .before .before .before .before .before .before .count-texts .ensures)
+    (c .before .read-place3 .ensures) (book-count (c .before .before .before .before .before .before .before .before .before .before .before .before .before .pre .0))
     (c .phrase-of3 .ensures)
     ∙ bit-book _ _ _ _ (c .before .before .if3 .taken) ∙ then-got _ _ _
     (field-got _ _ (c .before .before .before .before .before .before .read-plain .ensures)
@@ -90,7 +87,7 @@ returns-5 c = let a = c .before .before .before .before .before .before .before 
     let two =
     both _ _ _
     (λ z. c .before .before .before .before .before .before .before .before .if1 .left
-    (c .before .before .before .before .before .before .before .before .before .count-texts .ensures ∙ z))
+    (book-count (c .before .before .before .before .before .before .before .before .before .before .before .before .before .pre .0) ∙ z))
     (λ z. c .before .before .before .before .before .before .before .if2 .left
     (sym (c .before .before .before .before .before .before .before .before .before .before .before .before .before .pre .0 .whole)
     ∙ z)) in
@@ -106,7 +103,6 @@ pub read-phrase-spec : {M : Type 1} → statement M
 read-phrase-spec =
     tie.close
     (tie.spec
-    count-texts-requires
     read-place-requires
     phrase-of-requires
     returns

@@ -10,10 +10,10 @@ use Rattle.instructions.proofs.spelled_text.is_good.Statement.{statemen
 use Rattle.instructions.proofs.spelled_text.is_good.Tie as tie
 
 returns : tie.Need-returns
-returns c = let h : c .before .before .before .before .args .size < 1 = omega arith in simp (length-characters, lt-leb 1 _ h)
+returns c = let h : c .before .before .before .before .before .args .size < 1 = omega arith in simp (length-characters, lt-leb 1 _ h)
 
 returns-2 : tie.Need-returns-2
-returns-2 c = let h : 1 ≤ c .before .before .before .before .before .args .size = omega arith in
+returns-2 c = let h : 1 ≤ c .before .before .before .before .before .before .args .size = omega arith in
     simp (length-characters, le-leb 1 _ h, lt-leb _ 64 (c .if2 .taken))
 
 slice-aggregate-put-characters : tie.Need-slice-aggregate-put-characters
@@ -26,15 +26,15 @@ array-share-prefix-characters : tie.Need-array-share-prefix-characters
 array-share-prefix-characters c = search needs
 
 slice-aggregate-is-new : tie.Need-slice-aggregate-is-new
-slice-aggregate-is-new c = let t = copied (c .before .before .before .before .before .before .before .before .before .args .size) _ _ _ _
+slice-aggregate-is-new c = let t = copied (c .before .before .before .before .before .before .before .before .before .before .args .size) _ _ _ _
     (omega arith) (c .before .before .put-characters .ensures) in sym (ap length t ∙ length-characters _ _)
 
 is-new-requires : tie.Need-is-new-requires
 is-new-requires c κs = search needs
 
 returns-3 : tie.Need-returns-3
-returns-3 c = let h : 1 ≤ c .before .before .before .before .before .before .before .before .before .before .args .size = omega arith in
-    let t = copied (c .before .before .before .before .before .before .before .before .before .before .args .size) _ _ _ _ (omega arith)
+returns-3 c = let h : 1 ≤ c .before .before .before .before .before .before .before .before .before .before .before .args .size = omega arith in
+    let t = copied (c .before .before .before .before .before .before .before .before .before .before .before .args .size) _ _ _ _ (omega arith)
     (c .before .before .before .put-characters .ensures) in
     simp (length-characters, le-leb 1 _ h, le-leb _ 64 (c .before .before .before .before .before .if2 .left))
     (rw t at (c .is-new .ensures))

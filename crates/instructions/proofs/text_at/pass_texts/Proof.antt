@@ -10,11 +10,11 @@ use Rattle.instructions.proofs.text_at.pass_texts.Statement.{statement}
 use Rattle.instructions.proofs.text_at.pass_texts.Tie as tie
 
 abbrev Inv-loop : tie.InvT-loop
-Inv-loop plate at n book own count bit₀ left₀ bit left =
+Inv-loop plate at n index book own count bit₀ left₀ bit left =
     Passing (λ j. reader.text (phrasesIn book own count)) (placeAt plate at) n left (placeAt plate bit)
 
 abbrev μ-loop : tie.MeasureT-loop
-μ-loop plate at n book own count bit₀ left₀ bit left = left
+μ-loop plate at n index book own count bit₀ left₀ bit left = left
 
 loop-holds : tie.Need-loop-holds Inv-loop μ-loop
 loop-holds c = passing-start _ _ _

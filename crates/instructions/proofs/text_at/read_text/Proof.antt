@@ -2,6 +2,7 @@
 use Prim.Native.Nat.{_+_}
 use mathlib.Core.Path.{_≡_, _∙_}
 use native.Mathlib.Omega.{arith}
+use lib.ListN.{length}
 use borrow.Author.Needs.{needs}
 use Rattle.phrases.specs.Lookup.{phrasesIn}
 use Rattle.causes.specs.declared.Cause.the-variants.{Unused}
@@ -11,6 +12,7 @@ use Rattle.instructions.specs.TextsAt.{textAt}
 use Rattle.plate.specs.Plate as reader
 use Rattle.fields.proofs.Onward.{then-got, then-stopped}
 use Rattle.fields.proofs.Answers.{field-got, field-stopped, size-got, size-stopped}
+use Rattle.instructions.proofs.PhraseRead.{book-count}
 use Rattle.instructions.proofs.TextsRead.{text-code, some-phrase, by-spelled, by-phrase}
 use Rattle.instructions.proofs.text_at.read_text.Statement.{statement}
 use Rattle.instructions.proofs.text_at.read_text.Tie as tie
@@ -23,11 +25,8 @@ code-read : (c : tie.After-read-code) →
 code-read c =
     let b = c .before .before .before .before .before in
     c .read-code .ensures
-    ∙ text-code (phrasesIn (b .args .book .now) (b .args .own .now) (b .args .count)) (c .before .count-texts .result + b .args .count) _ _
-    (omega (arith, c .before .count-texts .ensures, b .pre .whole))
-
-count-texts-requires : tie.Need-count-texts-requires
-count-texts-requires c κs = search needs
+    ∙ text-code (phrasesIn (b .args .book .now) (b .args .own .now) (b .args .count)) (length (b .args .index .now) + b .args .count) _ _
+    (omega (arith, book-count (b .pre), b .pre .whole))
 
 add-read-code : tie.Need-add-read-code
 add-read-code c = search needs
@@ -53,7 +52,7 @@ read-phrase-requires : tie.Need-read-phrase-requires
 read-phrase-requires c κs = let some =
     some-phrase _ _ _ _ (field-got _ _ (c .before .before .before .before .read-code .ensures) (c .before .before .field .given .1))
     (c .if1 .taken) in
-    (search needs, omega (arith, some, c .before .before .before .before .before .count-texts .ensures))
+    (search needs, omega (arith, some))
 
 returns-2 : tie.Need-returns-2
 unfolding reader.text
@@ -95,7 +94,6 @@ pub read-text-spec : {M : Type 1} → statement M
 read-text-spec =
     tie.close
     (tie.spec
-    count-texts-requires
     add-read-code
     read-code-requires
     enum-known-field

@@ -1,5 +1,6 @@
 -- `check_lines` meets its contract: the n lines before a have no cause, and s is held of them.
 use Prim.Native.Nat.{_-_}
+use native.Mathlib.Omega.{arith}
 use mathlib.Core.Path.{sym, ap, _∙_}
 use lib.ListN.{length}
 use borrow.Author.Needs.{needs}
@@ -10,10 +11,10 @@ use Rattle.lines.proofs.checking.check_lines.Statement.{statement}
 use Rattle.lines.proofs.checking.check_lines.Tie as tie
 
 abbrev Inv-loop : tie.InvT-loop
-Inv-loop form book text s₀ n₀ a₀ s n a = Passed form (bookTexts book) text n a s
+Inv-loop form index book text s₀ n₀ a₀ s n a = Passed form (bookTexts book) text n a s
 
 abbrev μ-loop : tie.MeasureT-loop
-μ-loop form book text s₀ n₀ a₀ s n a = length text - a
+μ-loop form index book text s₀ n₀ a₀ s n a = length text - a
 
 nothing-seen-requires : tie.Need-nothing-seen-requires Inv-loop μ-loop
 nothing-seen-requires c κs = search needs
@@ -24,8 +25,8 @@ loop-holds c = passed-none _ _ _ _ (c .nothing-seen .ensures .0) (c .nothing-see
 find-requires : tie.Need-find-requires Inv-loop μ-loop
 find-requires c κs = search needs
 
-add-t14 : tie.Need-add-t14 Inv-loop μ-loop
-add-t14 c = search needs
+add-t15 : tie.Need-add-t15 Inv-loop μ-loop
+add-t15 c = search needs
 
 returns : tie.Need-returns Inv-loop μ-loop
 returns c =
@@ -45,13 +46,16 @@ read-line-requires : tie.Need-read-line-requires Inv-loop μ-loop
 read-line-requires c κs = search needs
 
 cause-of-requires : tie.Need-cause-of-requires Inv-loop μ-loop
-cause-of-requires c κs = let g = c .before .before .before .before .before .loop .inv in (own-count g, g .sound)
+cause-of-requires c κs =
+    let l = c .before .before .before .before .before in
+    let g = l .loop .inv in
+    (l .before .before .before .before .before .pre, own-count g, g .sound)
 
 enum-known-cause : tie.Need-enum-known-cause Inv-loop μ-loop
 enum-known-cause c = search needs
 
-add-t19 : tie.Need-add-t19 Inv-loop μ-loop
-add-t19 c = search needs
+add-t20 : tie.Need-add-t20 Inv-loop μ-loop
+add-t20 c = search needs
 
 returns-2 : tie.Need-returns-2 Inv-loop μ-loop
 returns-2 c =
@@ -77,10 +81,16 @@ advance-requires c κs =
     (passing g (f .0) (f .1) (b .if1 .left) (j .before .read-line .ensures) (j .cause-of .ensures) (c .enum-told .given .1), g .sound)
 
 add-a : tie.Need-add-a Inv-loop μ-loop
-add-a c = search needs
+add-a c =
+    let b = c .before .before .before .before .before .before in
+    let s = b .before .before .before .before .before .before .before .before in
+    omega (arith, b .if1 .left, b .before .find .ensures, s .good)
 
 add-n : tie.Need-add-n Inv-loop μ-loop
-add-n c = search needs
+add-n c =
+    let b = c .before .before .before .before .before .before in
+    let l = b .before .before .before in
+    omega (arith, b .before .before .loop-test .taken, l .loop .inv .few, l .before .before .before .before .before .good)
 
 loop-less : tie.Need-loop-less Inv-loop μ-loop
 loop-less c = search needs
@@ -110,7 +120,7 @@ check-lines-spec =
     nothing-seen-requires
     loop-holds
     find-requires
-    add-t14
+    add-t15
     returns
     sub-line
     part-line-start
@@ -118,7 +128,7 @@ check-lines-spec =
     read-line-requires
     cause-of-requires
     enum-known-cause
-    add-t19
+    add-t20
     returns-2
     enum-told
     add-advance

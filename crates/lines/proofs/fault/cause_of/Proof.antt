@@ -56,7 +56,7 @@ returns-5 c = simp (c .before .head .given .1)
 returns-6 : tie.Need-returns-6
 returns-6 c =
     let b = c .before in
-    simp (counts (b .before .before .before .before .args .head) (b .match .keys6) .cause) (c .room-fault .ensures)
+    simp (counts (b .before .before .before .before .before .args .head) (b .match .keys6) .cause) (c .room-fault .ensures)
 
 pub cause-of-spec : {M : Type 1} → statement M
 cause-of-spec =

@@ -1,8 +1,9 @@
--- `read_bare` meets its contract: one field, the kind, in a guide alone.
+-- `read_bare` meets its contract: no field behind the kind, in a guide alone.
 use mathlib.Core.Path.{sym}
-use borrow.Author.Tests.{eq-eqb, ne-eqb}
 use borrow.Author.Needs.{needs}
-use Rattle.lines.proofs.FieldCounts.{bare-counted}
+use Rattle.text.specs.Parts.{comma}
+use Rattle.text.proofs.Places.{parts-none}
+use Rattle.lines.proofs.FieldPlaces.{bare-more}
 use Rattle.lines.proofs.fields.read_bare.Statement.{statement}
 use Rattle.lines.proofs.fields.read_bare.Tie as tie
 
@@ -15,17 +16,15 @@ returns c = λ l h. simp (c .enum-told .given .1)
 enum-told-2 : tie.Need-enum-told-2
 enum-told-2 c = search needs
 
-count-parts-requires : tie.Need-count-parts-requires
-count-parts-requires c κs = search needs
-
 returns-2 : tie.Need-returns-2
 returns-2 c =
-    λ l h. simp (c .before .before .enum-told2 .given .1, bare-counted, sym (c .before .count-parts .ensures), ne-eqb _ _ (c .if1 .taken))
+    let g = c .before .before .before .args in
+    λ l h. simp (c .before .enum-told2 .given .1, bare-more (g .s .now) (g .a) l (c .if1 .taken))
 
 returns-3 : tie.Need-returns-3
 returns-3 c =
-    λ l h. simp (c .before .before .enum-told2 .given .1, bare-counted, sym (c .before .count-parts .ensures), eq-eqb _ _ (c .if1 .left)) (sym h)
+    let g = c .before .before .before .args in
+    λ l h. simp (c .before .enum-told2 .given .1, parts-none comma (g .s .now) (g .a) (c .if1 .left)) (sym h)
 
 pub read-bare-spec : {M : Type 1} → statement M
-read-bare-spec =
-    tie.close (tie.spec enum-told returns enum-told-2 count-parts-requires returns-2 returns-3)
+read-bare-spec = tie.close (tie.spec enum-told returns enum-told-2 returns-2 returns-3)

@@ -1,17 +1,33 @@
--- `read_listing_if` meets its contract: five fields, of which the last is a skip and the three before it are a test.
-use mathlib.Core.Path.{sym}
+-- `read_listing_if` meets its contract: four fields, of which the first three are a test and the last is a skip.
+use mathlib.Core.Path.{sym, ap, _∙_}
+use mathlib.Core.List.{[]}
+use lib.ListN.{length, getD}
 use borrow.Author.Tests.{eq-eqb, ne-eqb}
 use borrow.Author.Needs.{needs}
 use Rattle.lines.proofs.FieldCounts.{listing-if-counted}
+use Rattle.lines.proofs.FieldPlaces.{rest-parts}
 use Rattle.lines.proofs.FieldValues.{number-read, number-wrong, test-read}
 use Rattle.lines.proofs.fields.read_listing_if.Statement.{statement}
 use Rattle.lines.proofs.fields.read_listing_if.Tie as tie
+
+sub-count-parts : tie.Need-sub-count-parts
+sub-count-parts c = search needs
+
+part-count-parts-start : tie.Need-part-count-parts-start
+part-count-parts-start c = search needs
+
+part-count-parts-end : tie.Need-part-count-parts-end
+part-count-parts-end c = search needs
 
 count-parts-requires : tie.Need-count-parts-requires
 count-parts-requires c κs = search needs
 
 returns : tie.Need-returns
-returns c = simp (listing-if-counted, sym (c .before .count-parts .ensures), ne-eqb _ _ (c .if1 .taken))
+returns c =
+    let g = c .before .before .before .before .args in
+    let whole = rest-parts (g .s .now) (g .a) (c .before .before .before .before .pre) in
+    let n = sym (c .before .count-parts .ensures ∙ ap length whole) in
+    simp (listing-if-counted, n, ne-eqb _ _ (c .if1 .taken))
 
 read-test-requires : tie.Need-read-test-requires
 read-test-requires c κs = search needs
@@ -24,9 +40,20 @@ enum-told c = search needs
 
 returns-2 : tie.Need-returns-2
 returns-2 c =
-    let b = c .before .before .before in
+    let g = c .before .before .before .before .before .before .before .args in
+    let whole = rest-parts (g .s .now) (g .a) (c .before .before .before .before .before .before .before .pre) in
+    let n = sym (c .before .before .before .before .count-parts .ensures ∙ ap length whole) in
     let t = test-read _ _ _ (c .before .before .read-test .ensures) (c .enum-told .given .1) in
-    simp (listing-if-counted, sym (b .before .count-parts .ensures), eq-eqb _ _ (b .if1 .left), t)
+    simp (listing-if-counted, n, eq-eqb _ _ (c .before .before .before .if1 .left), t)
+
+sub-part : tie.Need-sub-part
+sub-part c = search needs
+
+part-part-start : tie.Need-part-part-start
+part-part-start c = search needs
+
+part-part-end : tie.Need-part-part-end
+part-part-end c = search needs
 
 part-requires : tie.Need-part-requires
 part-requires c κs = search needs
@@ -42,38 +69,45 @@ enum-told-2 c = search needs
 
 returns-3 : tie.Need-returns-3
 returns-3 c =
-    let k = c .before .before .before .before .before in
-    let b = k .before .before .before in
-    let t = test-read _ _ _ (k .before .before .read-test .ensures) (k .test .given .1) in
-    let n = number-wrong (c .before .before .before .part .ensures) 511 (c .before .before .read-natural .ensures) (c .enum-told2 .given .1) in
-    simp (listing-if-counted, sym (b .before .count-parts .ensures), eq-eqb _ _ (b .if1 .left), t, n)
+    let g = c .before .before .before .before .before .before .before .before .before .before .before .before .before .args in
+    let whole = rest-parts (g .s .now) (g .a) (c .before .before .before .before .before .before .before .before .before .before .before .before .before .pre) in
+    let n = sym (c .before .before .before .before .before .before .before .before .before .before .count-parts .ensures ∙ ap length whole) in
+    let t = test-read _ _ _ (c .before .before .before .before .before .before .before .before .read-test .ensures) (c .before .before .before .before .before .before .test .given .1) in
+    let k = number-wrong (c .before .before .before .part .ensures ∙ ap (λ fs. getD fs 3 []) whole) 511 (c .before .before .read-natural .ensures) (c .enum-told2 .given .1) in
+    simp (listing-if-counted, n, eq-eqb _ _ (c .before .before .before .before .before .before .before .before .before .if1 .left), t, k)
 
-cast-t4 : tie.Need-cast-t4
-cast-t4 c = search needs
+cast-t7 : tie.Need-cast-t7
+cast-t7 c = search needs
 
 returns-4 : tie.Need-returns-4
 returns-4 c =
-    let k = c .before .before .before .before .before .before in
-    let b = k .before .before .before in
-    let t = test-read _ _ _ (k .before .before .read-test .ensures) (k .test .given .1) in
-    let j = c .before in
-    let n = number-read (j .before .before .before .part .ensures) 511 (j .before .before .read-natural .ensures) (j .skip .given .1) in
-    simp (listing-if-counted, sym (b .before .count-parts .ensures), eq-eqb _ _ (b .if1 .left), t, n)
+    let g = c .before .before .before .before .before .before .before .before .before .before .before .before .before .before .args in
+    let whole = rest-parts (g .s .now) (g .a) (c .before .before .before .before .before .before .before .before .before .before .before .before .before .before .pre) in
+    let n = sym (c .before .before .before .before .before .before .before .before .before .before .before .count-parts .ensures ∙ ap length whole) in
+    let t = test-read _ _ _ (c .before .before .before .before .before .before .before .before .before .read-test .ensures) (c .before .before .before .before .before .before .before .test .given .1) in
+    let k = number-read (c .before .before .before .before .part .ensures ∙ ap (λ fs. getD fs 3 []) whole) 511 (c .before .before .before .read-natural .ensures) (c .before .skip .given .1) in
+    simp (listing-if-counted, n, eq-eqb _ _ (c .before .before .before .before .before .before .before .before .before .before .if1 .left), t, k)
 
 pub read-listing-if-spec : {M : Type 1} → statement M
 read-listing-if-spec =
     tie.close
     (tie.spec
+    sub-count-parts
+    part-count-parts-start
+    part-count-parts-end
     count-parts-requires
     returns
     read-test-requires
     enum-known-test
     enum-told
     returns-2
+    sub-part
+    part-part-start
+    part-part-end
     part-requires
     read-natural-requires
     enum-known-skip
     enum-told-2
     returns-3
-    cast-t4
+    cast-t7
     returns-4)

@@ -1,37 +1,59 @@
--- `read_text` meets its contract: two fields, of which the second is a text.
-use mathlib.Core.Path.{sym}
-use borrow.Author.Tests.{eq-eqb, ne-eqb}
+-- `read_text` meets its contract: a text from the place to the end, or a comma that makes one field too many, or a wrong text.
+use mathlib.Core.Path.{sym, ap, _∙_}
 use borrow.Author.Needs.{needs}
-use Rattle.lines.proofs.FieldCounts.{text-counted}
-use Rattle.lines.proofs.FieldValues.{text-tested}
+use Rattle.text.specs.Parts.{comma}
+use Rattle.text.proofs.Places.{parts-none}
+use Rattle.lines.specs.Answers.{headOf}
+use Rattle.lines.proofs.FieldPlaces.{whole-rest, text-good, text-more, text-bad}
 use Rattle.lines.proofs.fields.read_text.Statement.{statement}
 use Rattle.lines.proofs.fields.read_text.Tie as tie
 
-count-parts-requires : tie.Need-count-parts-requires
-count-parts-requires c κs = search needs
-
 returns : tie.Need-returns
-returns c = λ l h. simp (text-counted l, sym (c .before .count-parts .ensures), ne-eqb _ _ (c .if1 .taken))
+returns c =
+    let g = c .before .before .args in
+    λ l h. simp (parts-none comma (g .s .now) (g .a) (c .if1 .taken))
 
-part-requires : tie.Need-part-requires
-part-requires c κs = search needs
+sub-is-text : tie.Need-sub-is-text
+sub-is-text c = search needs
+
+part-is-text-start : tie.Need-part-is-text-start
+part-is-text-start c = search needs
+
+part-is-text-end : tie.Need-part-is-text-end
+part-is-text-end c = search needs
 
 is-text-requires : tie.Need-is-text-requires
 is-text-requires c κs = search needs
 
 returns-2 : tie.Need-returns-2
 returns-2 c =
-    let b = c .before .before .before in
-    let t = text-tested (c .before .before .part .ensures) (c .before .is-text .ensures) (c .if2 .taken) in
-    λ l h. simp (text-counted l, sym (b .before .count-parts .ensures), eq-eqb _ _ (b .if1 .left), t) (sym (h _))
+    let g = c .before .before .before .before .before .args in
+    let good = sym (c .before .is-text .ensures) ∙ c .if2 .taken in
+    λ l h. sym (ap headOf (text-good (g .s .now) (g .a) l _ (whole-rest (g .s .now) (g .a)) (c .before .before .before .if1 .left) good) ∙ h _)
+
+find-requires : tie.Need-find-requires
+find-requires c κs = search needs
 
 returns-3 : tie.Need-returns-3
-returns-3 c =
-    let b = c .before .before .before in
-    let t = text-tested (c .before .before .part .ensures) (c .before .is-text .ensures) (c .if2 .left) in
-    λ l h. simp (text-counted l, sym (b .before .count-parts .ensures), eq-eqb _ _ (b .if1 .left), t)
+returns-3 c = λ l h. sym (ap headOf (text-more _ _ _ (c .before .before .before .before .before .if1 .left) (c .before .find .ensures .0) l (c .if3 .taken)))
+
+returns-4 : tie.Need-returns-4
+returns-4 c =
+    let g = c .before .before .before .before .before .before .before .args in
+    let f = c .before .find .ensures in
+    let wrong = sym (c .before .before .before .is-text .ensures) ∙ c .before .before .if2 .left in
+    λ l h. sym (ap headOf (text-bad (g .s .now) (g .a) _ (c .before .before .before .before .before .if1 .left) (f .0) l _ (whole-rest (g .s .now) (g .a)) (f .1) (c .if3 .left) wrong))
 
 pub read-text-spec : {M : Type 1} → statement M
 read-text-spec =
     tie.close
-    (tie.spec count-parts-requires returns part-requires is-text-requires returns-2 returns-3)
+    (tie.spec
+    returns
+    sub-is-text
+    part-is-text-start
+    part-is-text-end
+    is-text-requires
+    returns-2
+    find-requires
+    returns-3
+    returns-4)

@@ -22,7 +22,11 @@ same-length : tie.Need-same-length
 same-length c = search needs
 
 returns : tie.Need-returns
-returns c = rw (← more-fields _ _ _ _) (then _ _ _ _ _ _ _ (then _ _ _ _ _ _ _ (c .before .before .before .before .before .before .before .before .before .before .put-question .ensures) (c .before .before .before .before .before .before .put-options .ensures) (omega arith)) (c .before .before .put-byte .ensures) (omega arith))
+returns c =
+    let fits = c .before .before .before .before .before .before .before .before .before .before .before .before .before .before .before .before .before .before .good in
+    rw (← more-fields _ _ _ _)
+    (then _ _ _ _ _ _ _ (then _ _ _ _ _ _ _ (c .before .before .before .before .before .before .before .before .before .before .put-question .ensures)
+    (c .before .before .before .before .before .before .put-options .ensures) (omega (arith, fits))) (c .before .before .put-byte .ensures) (omega (arith, fits)))
 
 pub put-inputs-spec : {M : Type 1} → statement M
 put-inputs-spec =

@@ -10,13 +10,13 @@ enum-known-i : tie.Need-enum-known-i
 enum-known-i c = search needs
 
 put-input-requires : tie.Need-put-input-requires
-put-input-requires c κs = (search needs, subst (Ready _ _ _ _) (c .before .before .i .given .1) (c .before .before .before .before .before .before .before .before .pre .1))
+put-input-requires c κs = (search needs, search needs, subst (Ready _ _ _ _) (c .before .before .i .given .1) (c .before .before .before .before .before .before .before .before .before .pre .1))
 
 enum-known-i-2 : tie.Need-enum-known-i-2
 enum-known-i-2 c = search needs
 
 put-inputs-requires : tie.Need-put-inputs-requires
-put-inputs-requires c κs = let k = subst (Ready _ _ _ _) (c .before .before .i2 .given .1) (c .before .before .before .before .before .before .before .before .pre .1) in (c .before .before .before .before .before .before .before .before .pre .0, k .0, k .1)
+put-inputs-requires c κs = let k = subst (Ready _ _ _ _) (c .before .before .i2 .given .1) (c .before .before .before .before .before .before .before .before .before .pre .1) in (c .before .before .before .before .before .before .before .before .before .pre .0, k .0, k .1)
 
 enum-known-i-3 : tie.Need-enum-known-i-3
 enum-known-i-3 c = search needs
@@ -40,13 +40,13 @@ enum-known-i-5 : tie.Need-enum-known-i-5
 enum-known-i-5 c = search needs
 
 put-goto-requires : tie.Need-put-goto-requires
-put-goto-requires c κs = subst (Ready _ _ _ _) (c .before .before .i5 .given .1) (c .before .before .before .before .before .before .before .before .pre .1)
+put-goto-requires c κs = subst (Ready _ _ _ _) (c .before .before .i5 .given .1) (c .before .before .before .before .before .before .before .before .before .pre .1)
 
 enum-known-i-6 : tie.Need-enum-known-i-6
 enum-known-i-6 c = search needs
 
 put-if-requires : tie.Need-put-if-requires
-put-if-requires c κs = subst (Ready _ _ _ _) (c .before .before .i6 .given .1) (c .before .before .before .before .before .before .before .before .pre .1)
+put-if-requires c κs = subst (Ready _ _ _ _) (c .before .before .i6 .given .1) (c .before .before .before .before .before .before .before .before .before .pre .1)
 
 same-length : tie.Need-same-length
 same-length c = search needs

@@ -14,14 +14,14 @@ use Rattle.read_plate.proofs.options.put_options.Statement.{statement}
 use Rattle.read_plate.proofs.options.put_options.Tie as tie
 
 abbrev Inv-loop : tie.InvT-loop
-Inv-loop plate book own count options bit out₀ at end₀ place₀ left₀ out end place left = Left options-pieces (λ j. reader.text (phrasesIn book own count)) plate left place end out
+Inv-loop plate index book own count options bit out₀ at end₀ place₀ left₀ out end place left = Left options-pieces (λ j. reader.text (phrasesIn book own count)) plate left place end out
     (poured at (optionsBytes (optionsAt plate (phrasesIn book own count) options bit)) out₀) × (length out ≡ length out₀)
 
 abbrev μ-loop : tie.MeasureT-loop
-μ-loop plate book own count options bit out₀ at end₀ place₀ left₀ out end place left = left
+μ-loop plate index book own count options bit out₀ at end₀ place₀ left₀ out end place left = left
 
 loop-holds : tie.Need-loop-holds Inv-loop μ-loop
-loop-holds c = (left-all options-pieces _ _ _ _ (c .before .before .before .before .pre .1) (omega arith), refl)
+loop-holds c = (left-all options-pieces _ _ _ _ (c .before .before .before .before .before .pre .1) (omega arith), refl)
 
 read-text-requires : tie.Need-read-text-requires Inv-loop μ-loop
 read-text-requires c κs = search needs

@@ -16,14 +16,14 @@ use Rattle.read_plate.proofs.passes.put_instructions.Statement.{stateme
 use Rattle.read_plate.proofs.passes.put_instructions.Tie as tie
 
 abbrev Inv-loop : tie.InvT-loop
-Inv-loop plate book own count n bit out₀ at end₀ place₀ left₀ out end place left = Left (lines-pieces instructionFields) (instruction (phrasesIn book own count)) plate left place end out
+Inv-loop plate index book own count n bit out₀ at end₀ place₀ left₀ out end place left = Left (lines-pieces instructionFields) (instruction (phrasesIn book own count)) plate left place end out
     (poured at (linesText (map instructionFields (instructionsAt plate (phrasesIn book own count) n bit))) out₀) × (length out ≡ length out₀)
 
 abbrev μ-loop : tie.MeasureT-loop
-μ-loop plate book own count n bit out₀ at end₀ place₀ left₀ out end place left = left
+μ-loop plate index book own count n bit out₀ at end₀ place₀ left₀ out end place left = left
 
 loop-holds : tie.Need-loop-holds Inv-loop μ-loop
-loop-holds c = (left-all (lines-pieces instructionFields) _ _ _ _ (c .before .before .before .before .pre .1) (omega arith), refl)
+loop-holds c = (left-all (lines-pieces instructionFields) _ _ _ _ (c .before .before .before .before .before .pre .1) (omega arith), refl)
 
 sub-read-instruction : tie.Need-sub-read-instruction Inv-loop μ-loop
 sub-read-instruction c = search needs
@@ -44,7 +44,7 @@ returns : tie.Need-returns Inv-loop μ-loop
 returns c = absurd (left-read (lines-pieces instructionFields) _ _ _ (c .before .before .before .before .loop .inv .0) (omega arith) (instruction-stopped _ _ _ _ _ (c .before .before .read-instruction .ensures) (c .enum-told .given .1) refl))
 
 line-at-requires : tie.Need-line-at-requires Inv-loop μ-loop
-line-at-requires c κs = (c .before .before .before .before .before .before .before .before .before .before .before .pre .0, instruction-ready _ _ _ _ _ _ _ (c .before .before .before .before .read-instruction .ensures) _ (c .before .before .read .given .1))
+line-at-requires c κs = (c .before .before .before .before .before .before .before .before .before .before .before .before .pre .0, instruction-ready _ _ _ _ _ _ _ (c .before .before .before .before .read-instruction .ensures) _ (c .before .before .read .given .1))
 
 sub-left : tie.Need-sub-left Inv-loop μ-loop
 sub-left c = search needs

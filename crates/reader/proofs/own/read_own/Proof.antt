@@ -29,6 +29,7 @@ returns c = (
 read-phrases-requires : tie.Need-read-phrases-requires
 read-phrases-requires c κs = (
   search needs,
+  search needs,
   got-good _ gives-count (field-got _ _ (c .before .before .before .before .read-count .ensures)
       (c .before .before .field .given .1)),
   search needs,

@@ -14,10 +14,10 @@ use Rattle.reader.proofs.own.read_phrases.Statement.{statement}
 use Rattle.reader.proofs.own.read_phrases.Tie as tie
 
 abbrev Inv-loop : tie.InvT-loop
-Inv-loop plate at count book own₀ bit₀ end₀ k₀ own bit end k = OwnSoFar plate book at count own₀ own bit end k × (k ≤ count)
+Inv-loop plate at count index book own₀ bit₀ end₀ k₀ own bit end k = OwnSoFar plate book at count own₀ own bit end k × (k ≤ count)
 
 abbrev μ-loop : tie.MeasureT-loop
-μ-loop plate at count book own₀ bit₀ end₀ k₀ own bit end k = count - k
+μ-loop plate at count index book own₀ bit₀ end₀ k₀ own bit end k = count - k
 
 loop-holds : tie.Need-loop-holds Inv-loop μ-loop
 loop-holds c = (own-start _ _ _ _ _, search needs)
@@ -65,7 +65,7 @@ same-length-2 c = kept _ _ _ _ _ (c .before .loop .inv .0 .written)
 
 returns-2 : tie.Need-returns-2 Inv-loop μ-loop
 returns-2 c = let s = c .before .loop .inv in
-    let e : c .before .loop .k ≡ c .before .before .before .before .before .args .count = omega arith in
+    let e : c .before .loop .k ≡ c .before .before .before .before .before .before .args .count = omega arith in
     (own-ended (s .0) (omega arith) (search needs) e, (search needs, rw e at (own-there (s .0) (omega arith) (search needs))))
 
 pub read-phrases-spec : {M : Type 1} → statement M

@@ -35,7 +35,7 @@ returns-2 c = (
 read-rest-requires : tie.Need-read-rest-requires
 read-rest-requires c κs = let there = subst (OwnThere _) (c .before .before .first .given .1)
     (c .before .before .before .before .before .before .read-own .ensures .1) in
-    record { short = search needs; phrases = search needs; few = there .0; whole = there .1 }
+    record { short = search needs; indexed = search needs; few = there .0; whole = there .1 }
 
 same-length-2 : tie.Need-same-length-2
 same-length-2 c = search needs

@@ -60,7 +60,7 @@ returns-3 c =
       rest-filled _ _ _ _ _ n _ _ is (sym (c .before .is-filled .ensures) ∙ c .if1 .taken),
       these-stand
           (record {
-            lent = c .before .before .before .before .before .before .before .before .before .before .before .before .before .pre;
+            lent = c .before .before .before .before .before .before .before .before .before .before .before .before .before .before .pre;
             few = few-instructions _ _ _ n;
             whole = instructions-there _ _ _ _ _ n _ _ is;
           }),

@@ -7,7 +7,7 @@ use Rattle.run.proofs.meet.go_on.Statement.{statement}
 use Rattle.run.proofs.meet.go_on.Tie as tie
 
 returns : tie.Need-returns
-returns c = ((λ answers out. lay-here answers _ End _ out (omega arith)), search needs)
+returns c = ((λ rs answers out. lay-here rs answers _ End _ out (omega arith)), search needs)
 
 pub go-on-spec : {M : Type 1} → statement M
 go-on-spec = tie.close (tie.spec returns)

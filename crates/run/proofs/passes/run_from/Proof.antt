@@ -1,3 +1,4 @@
+-- `run_from` meets its contract. The loop: the run of the instructions that are left, behind what is written, is the whole run.
 use borrow.Author.Needs.{needs}
 use Prim.Native.Nat.{_+_, _≤_}
 use mathlib.Core.Path.{_≡_, refl, _∙_}
@@ -12,81 +13,62 @@ use Rattle.run.proofs.Accepting.{accepted-meets}
 use Rattle.run.proofs.Going.{following, instruction-got, instruction-there, lay-stopped, lay-onward, lay-done}
 use Rattle.run.proofs.passes.run_from.Statement.{statement}
 use Rattle.run.proofs.passes.run_from.Tie as tie
-use Rattle.run.proofs.passes.run_from.Reads as reads
-use Rattle.run.proofs.passes.run_from.Lts as lts
-use Rattle.instructions.proofs.read_instruction.Reads as read-instruction-reads
-use Rattle.run.proofs.meet.meet.Reads as meet-reads
 
 abbrev Inv-loop : tie.InvT-loop
-Inv-loop plate book own from n answers out₀ count p₀ bit₀ left₀ over₀ out p bit left over = Continues plate book own count left bit × (laid (p .end) (run (instructionsFrom plate book own count left bit) over (machineState answers (p .machine))) out ≡ laid (p₀ .end) (run (instructionsFrom plate book own count n from) 0 (machineState answers (p₀ .machine))) out₀) × (p .outcome ≡ End) × (p .machine .steps + left ≤ 18446744073709551615) × (p .end ≤ 18446744073709551615) × (length out ≡ length out₀)
+Inv-loop plate index book own from n answers registers₀ out₀ count p₀ bit₀ left₀ over₀ registers out p bit left over = Continues plate book own count left bit × (laid (p .end) (run (instructionsFrom plate book own count left bit) over (machineState registers answers (p .machine))) out ≡ laid (p₀ .end) (run (instructionsFrom plate book own count n from) 0 (machineState registers₀ answers (p₀ .machine))) out₀) × (p .outcome ≡ End) × (p .machine .steps + left ≤ 18446744073709551615) × (p .end ≤ 18446744073709551615) × (length out ≡ length out₀)
 
 abbrev μ-loop : tie.MeasureT-loop
-μ-loop plate book own from n answers out₀ count p₀ bit₀ left₀ over₀ out p bit left over = left
+μ-loop plate index book own from n answers registers₀ out₀ count p₀ bit₀ left₀ over₀ registers out p bit left over = left
 
--- src/passes.rt:42:5
 loop-holds : tie.Need-loop-holds Inv-loop μ-loop
-loop-holds c = (c .before .before .before .before .pre .1, refl, c .before .before .before .before .pre .2, c .before .before .before .before .pre .3, search needs, refl)
+loop-holds c = (c .before .before .before .before .before .pre .1, refl, c .before .before .before .before .before .pre .2, c .before .before .before .before .before .pre .3, search needs, refl)
 
--- src/passes.rt:43:63
 sub-read-instruction : tie.Need-sub-read-instruction Inv-loop μ-loop
 sub-read-instruction c = search needs
 
--- src/passes.rt:43:13
 read-instruction-requires : tie.Need-read-instruction-requires Inv-loop μ-loop
-read-instruction-requires c κs = c .before .before .before .before .before .before .pre .0 .stands .lent
+read-instruction-requires c κs = c .before .before .before .before .before .before .before .pre .0 .stands .lent
 
--- src/passes.rt:44:33
 enum-known-read : tie.Need-enum-known-read Inv-loop μ-loop
 enum-known-read c = search needs
 
--- src/passes.rt:45:13
 enum-told : tie.Need-enum-told Inv-loop μ-loop
 enum-told c = search needs
 
--- src/passes.rt:45:13
 same-length : tie.Need-same-length Inv-loop μ-loop
 same-length c = search needs
 
--- src/passes.rt:45:13
 returns : tie.Need-returns Inv-loop μ-loop
 returns c = absurd (instruction-there _ _ _ _ _ _ (c .before .before .before .before .loop .inv .0) _ (c .before .before .read-instruction .ensures) (search needs) (c .enum-told .given .1))
 
--- src/passes.rt:48:13
 meet-requires : tie.Need-meet-requires Inv-loop μ-loop
-meet-requires c κs = (c .before .before .before .before .before .before .before .before .before .before .before .before .pre .0 .stands .lent, accepted-meets _ _ _ _ (c .before .before .before .before .before .before .before .before .before .before .before .before .pre .0) (λ i. omega (arith, c .before .before .before .before .before .before .before .before .before .before .before .shared-slice-known .given i)) _ _ _ _ (instruction-got _ _ _ _ _ _ (c .before .before .before .before .before .before .before .loop .inv .0) _ (c .before .before .before .before .before .read-instruction .ensures) (c .before .before .before .read .given .1)), omega (arith, c .before .before .before .before .before .before .before .loop .inv .3))
+meet-requires c κs = (c .before .before .before .before .before .before .before .before .before .before .before .before .before .pre .0 .stands .lent, accepted-meets _ _ _ _ _ (c .before .before .before .before .before .before .before .before .before .before .before .before .before .pre .0) (λ i. omega (arith, c .before .before .before .before .before .before .before .before .before .before .before .before .shared-slice-known .given i)) _ _ _ _ (instruction-got _ _ _ _ _ _ (c .before .before .before .before .before .before .before .loop .inv .0) _ (c .before .before .before .before .before .read-instruction .ensures) (c .before .before .before .read .given .1)), omega (arith, c .before .before .before .before .before .before .before .loop .inv .3))
 
 enum-told-2 : tie.Need-enum-told-2 Inv-loop μ-loop
 enum-told-2 c = search needs
 
--- src/passes.rt:52:13
 same-length-2 : tie.Need-same-length-2 Inv-loop μ-loop
 same-length-2 c = search needs
 
--- src/passes.rt:52:13
 returns-2 : tie.Need-returns-2 Inv-loop μ-loop
 returns-2 c = let f = following _ _ _ _ _ _ (c .before .before .before .before .before .before .before .before .before .before .before .before .loop .inv .0) _ (c .before .before .before .before .before .before .before .before .before .before .read-instruction .ensures) (search needs) (c .before .before .before .before .before .before .before .before .read .given .1) in
-    lay-stopped _ _ _ _ _ _ _ _ (c .before .before .before .before .meet .ensures .0) _ _ (f .split) (not-end _ (c .match2 .keys2)) ∙ c .before .before .before .before .before .before .before .before .before .before .before .before .loop .inv .1
+    lay-stopped _ _ _ _ _ _ _ _ _ (c .before .before .before .before .meet .ensures .0) _ _ (f .split) (not-end _ (c .match2 .keys2)) ∙ c .before .before .before .before .before .before .before .before .before .before .before .before .loop .inv .1
 
--- src/passes.rt:56:9
 sub-left : tie.Need-sub-left Inv-loop μ-loop
 sub-left c = search needs
 
--- src/passes.rt:42:5
 loop-less : tie.Need-loop-less Inv-loop μ-loop
 loop-less c = search needs
 
--- src/passes.rt:42:5
 loop-again : tie.Need-loop-again Inv-loop μ-loop
 loop-again c = let f = following _ _ _ _ _ _ (c .before .before .before .before .before .before .before .before .before .before .before .before .before .loop .inv .0) _ (c .before .before .before .before .before .before .before .before .before .before .before .read-instruction .ensures) (search needs) (c .before .before .before .before .before .before .before .before .before .read .given .1) in
-    (f .others, lay-onward _ _ _ _ _ _ _ _ (c .before .before .before .before .before .meet .ensures .0) _ _ (f .split) _ (c .enum-told2 .given .1) (c .before .before .before .before .before .meet .ensures .1 .0) (omega (arith, c .before .before .before .before .before .before .before .before .before .before .before .before .before .before .before .before .before .before .good)) ∙ c .before .before .before .before .before .before .before .before .before .before .before .before .before .loop .inv .1, c .enum-told2 .given .1, omega (arith, c .before .before .before .before .before .before .before .before .before .before .before .before .before .loop .inv .3, c .before .before .before .before .before .meet .ensures .1 .1), search needs, search needs)
+    (f .others, lay-onward _ _ _ _ _ _ _ _ _ (c .before .before .before .before .before .meet .ensures .0) _ _ (f .split) _ (c .enum-told2 .given .1) (c .before .before .before .before .before .meet .ensures .1 .0) (omega (arith, c .before .before .before .before .before .before .before .before .before .before .before .before .before .before .before .before .before .before .before .good)) ∙ c .before .before .before .before .before .before .before .before .before .before .before .before .before .loop .inv .1, c .enum-told2 .given .1, omega (arith, c .before .before .before .before .before .before .before .before .before .before .before .before .before .loop .inv .3, c .before .before .before .before .before .meet .ensures .1 .1), search needs, search needs)
 
--- src/passes.rt:23:1
 same-length-3 : tie.Need-same-length-3 Inv-loop μ-loop
 same-length-3 c = search needs
 
--- src/passes.rt:23:1
 returns-3 : tie.Need-returns-3 Inv-loop μ-loop
-returns-3 c = lay-done _ _ _ _ _ _ (c .before .loop .inv .0) _ _ _ _ (c .before .loop .inv .2) (omega arith) (omega arith) ∙ c .before .loop .inv .1
+returns-3 c = lay-done _ _ _ _ _ _ (c .before .loop .inv .0) _ _ _ _ _ (c .before .loop .inv .2) (omega arith) (omega arith) ∙ c .before .loop .inv .1
 
 pub run-from-spec : {M : Type 1} → statement M
 run-from-spec =

@@ -18,7 +18,7 @@ same-length : tie.Need-same-length
 same-length c = search needs
 
 returns : tie.Need-returns
-returns c = write-offered _ _ _ _ _ _ _ _ _ (c .before .before .before .before .before .before .before .before .before .before .put-offer .ensures) (c .before .before .before .before .before .before .put-options .ensures) (c .before .before .put-end .ensures) (omega (arith, c .before .before .before .before .before .before .before .before .before .before .before .before .before .before .before .before .before .good))
+returns c = write-offered _ _ _ _ _ _ _ _ _ (c .before .before .before .before .before .before .before .before .before .before .put-offer .ensures) (c .before .before .before .before .before .before .put-options .ensures) (c .before .before .put-end .ensures) (omega (arith, c .before .before .before .before .before .before .before .before .before .before .before .before .before .before .before .before .before .before .good))
 
 pub offer-spec : {M : Type 1} → statement M
 offer-spec =

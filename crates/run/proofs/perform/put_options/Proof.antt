@@ -13,13 +13,13 @@ use Rattle.run.proofs.perform.put_options.Statement.{statement}
 use Rattle.run.proofs.perform.put_options.Tie as tie
 
 abbrev Inv-loop : tie.InvT-loop
-Inv-loop plate book own count options bit out₀ at end₀ place₀ left₀ out end place left = Offers plate book own count left place × (poured end (optionsBytes (textsAt plate book own count left place)) out ≡ poured at (optionsBytes (textsAt plate book own count options bit)) out₀) × (length out ≡ length out₀) × (end ≤ 18446744073709551615)
+Inv-loop plate index book own count options bit out₀ at end₀ place₀ left₀ out end place left = Offers plate book own count left place × (poured end (optionsBytes (textsAt plate book own count left place)) out ≡ poured at (optionsBytes (textsAt plate book own count options bit)) out₀) × (length out ≡ length out₀) × (end ≤ 18446744073709551615)
 
 abbrev μ-loop : tie.MeasureT-loop
-μ-loop plate book own count options bit out₀ at end₀ place₀ left₀ out end place left = left
+μ-loop plate index book own count options bit out₀ at end₀ place₀ left₀ out end place left = left
 
 loop-holds : tie.Need-loop-holds Inv-loop μ-loop
-loop-holds c = (c .before .before .before .before .pre .1, refl, refl, search needs)
+loop-holds c = (c .before .before .before .before .before .pre .1, refl, refl, search needs)
 
 read-text-requires : tie.Need-read-text-requires Inv-loop μ-loop
 read-text-requires c κs = search needs
@@ -43,7 +43,7 @@ slice-aggregate-text-of : tie.Need-slice-aggregate-text-of Inv-loop μ-loop
 slice-aggregate-text-of c = search needs
 
 text-of-requires : tie.Need-text-of-requires Inv-loop μ-loop
-text-of-requires c κs = let o = option-read _ _ _ _ _ _ (c .before .before .before .before .before .before .before .before .loop .inv .0) _ (c .before .before .before .before .before .before .read-text .ensures) (search needs) (c .before .before .before .before .read .given .1) in (text-fits _ _ _ _ (o .good), search needs)
+text-of-requires c κs = let o = option-read _ _ _ _ _ _ (c .before .before .before .before .before .before .before .before .loop .inv .0) _ (c .before .before .before .before .before .before .read-text .ensures) (search needs) (c .before .before .before .before .read .given .1) in (search needs, text-fits _ _ _ _ (o .good), search needs)
 
 put-option-requires : tie.Need-put-option-requires Inv-loop μ-loop
 put-option-requires c κs = search needs
@@ -56,7 +56,7 @@ loop-less c = search needs
 
 loop-again : tie.Need-loop-again Inv-loop μ-loop
 loop-again c = let o = option-read _ _ _ _ _ _ (c .before .before .before .before .before .before .before .before .before .before .before .before .loop .inv .0) _ (c .before .before .before .before .before .before .before .before .before .before .read-text .ensures) (search needs) (c .before .before .before .before .before .before .before .before .read .given .1) in
-    (o .others, write-first _ _ _ _ _ _ _ _ _ _ _ _ o (rw (c .before .before .before .text-of .ensures ∙ c .before .before .before .before .before .before .spell .ensures _ _) at (c .before .before .put-option .ensures)) (omega (arith, c .before .before .before .before .before .before .before .before .before .before .before .before .before .before .before .before .before .good)) ∙ c .before .before .before .before .before .before .before .before .before .before .before .before .loop .inv .1, search needs, search needs)
+    (o .others, write-first _ _ _ _ _ _ _ _ _ _ _ _ o (rw (c .before .before .before .text-of .ensures ∙ c .before .before .before .before .before .before .spell .ensures _ _) at (c .before .before .put-option .ensures)) (omega (arith, c .before .before .before .before .before .before .before .before .before .before .before .before .before .before .before .before .before .before .good)) ∙ c .before .before .before .before .before .before .before .before .before .before .before .before .loop .inv .1, search needs, search needs)
 
 same-length-2 : tie.Need-same-length-2 Inv-loop μ-loop
 same-length-2 c = search needs

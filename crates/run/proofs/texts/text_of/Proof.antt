@@ -11,7 +11,7 @@ enum-known-text : tie.Need-enum-known-text
 enum-known-text c = search needs
 
 slice-aggregate-result : tie.Need-slice-aggregate-result
-slice-aggregate-result c = let size = fits-size _ (c .before .before .text .given .1) (c .before .before .before .before .before .before .before .pre .0) in omega (arith, length-take (c .before .before .text .given .0 .1 .0) (c .before .before .before .before .before .before .before .args .characters .now))
+slice-aggregate-result c = let size = fits-size _ (c .before .before .text .given .1) (c .before .before .before .before .before .before .before .before .pre .1) in omega (arith, length-take (c .before .before .text .given .0 .1 .0) (c .before .before .before .before .before .before .before .before .args .characters .now))
 
 enum-known-text-2 : tie.Need-enum-known-text-2
 enum-known-text-2 c = search needs

@@ -20,9 +20,9 @@ compares-requires c κs = search needs
 
 returns : tie.Need-returns
 unfolding holds machineState
-returns c = λ answers.
+returns c = λ answers m.
     let a = c .before .before .before .args in
-    let v = toZ-ofZ {w = w32} {z = getD (a .t1 .registers) (a .test .register) (pos 0)} (record { sfits = c .before .before .value .given }) in
+    let v = toZ-ofZ {w = w32} {z = getD (a .registers .now) (a .test .register) (pos 0)} (record { sfits = c .before .before .value .given }) in
     let k = toZ-ofZ {w = w32} {z = a .test .constant} (record { sfits = c .before .struct-told .given .1 .1 .0 .1 }) in
     simp (v, k) at (c .compares .ensures)
 

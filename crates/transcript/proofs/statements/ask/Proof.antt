@@ -17,7 +17,7 @@ same-length : tie.Need-same-length
 same-length c = search needs
 
 returns : tie.Need-returns
-returns c = (lay-perform _ _ (input _ _) _ _ _ _ _ (c .before .before .before .before .before .before .before .before .put-asked .ensures) (c .before .before .take-answer .ensures .0) (omega arith), search needs)
+returns c = (lay-perform _ _ _ (input _ _) _ _ _ _ _ (c .before .before .before .before .before .before .before .before .before .put-asked .ensures) (c .before .before .take-answer .ensures .0) (omega arith), search needs)
 
 leave-requires : tie.Need-leave-requires
 leave-requires c κs = search needs
@@ -26,7 +26,7 @@ same-length-2 : tie.Need-same-length-2
 same-length-2 c = search needs
 
 returns-2 : tie.Need-returns-2
-returns-2 c = (lay-perform _ _ (input _ _) _ _ _ _ _ (c .before .before .before .before .before .put-asked .ensures) (lay-unanswered _ _ _ _ _ _ (c .leave .ensures .0 _ _) (c .before .if1 .left)) (omega arith), search needs)
+returns-2 c = (lay-perform _ _ _ (input _ _) _ _ _ _ _ (c .before .before .before .before .before .put-asked .ensures) (lay-unanswered _ _ _ _ _ _ _ (c .leave .ensures .0 _ _ _) (c .before .if1 .left)) (omega arith), search needs)
 
 pub ask-spec : {M : Type 1} → statement M
 ask-spec =

@@ -36,8 +36,8 @@ option c =
 
 returns : tie.Need-returns
 returns c =
-    let b = c .before .before .before .before in (
-      lay-chosen _ _ _ _ _ _ _ (c .before .before .take-answer .ensures .0) (b .before .before .before .if1 .taken) (option (b .before) ∙ b .if2 .taken),
+    let b = c .before .before .before .before .before in (
+      lay-chosen _ _ _ _ _ _ _ _ (c .before .before .take-answer .ensures .0) (b .before .before .before .if1 .taken) (option (b .before) ∙ b .if2 .taken),
       search needs,
     )
 
@@ -47,13 +47,13 @@ leave-requires c κs = search needs
 returns-2 : tie.Need-returns-2
 returns-2 c =
     let b = c .before in
-    (lay-outside _ _ _ _ _ _ _ (c .leave .ensures .0 _ _) (b .before .before .before .if1 .taken) (option (b .before) ∙ b .if2 .left), search needs)
+    (lay-outside _ _ _ _ _ _ _ _ (c .leave .ensures .0 _ _ _) (b .before .before .before .if1 .taken) (option (b .before) ∙ b .if2 .left), search needs)
 
 leave-requires-2 : tie.Need-leave-requires-2
 leave-requires-2 c κs = search needs
 
 returns-3 : tie.Need-returns-3
-returns-3 c = (lay-unchosen _ _ _ _ _ _ _ (c .leave2 .ensures .0 _ _) (c .before .if1 .left), search needs)
+returns-3 c = (lay-unchosen _ _ _ _ _ _ _ _ (c .leave2 .ensures .0 _ _ _) (c .before .if1 .left), search needs)
 
 pub choose-spec : {M : Type 1} → statement M
 choose-spec =

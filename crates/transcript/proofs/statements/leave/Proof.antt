@@ -9,7 +9,7 @@ stepped-requires : tie.Need-stepped-requires
 stepped-requires c κs = search needs
 
 returns : tie.Need-returns
-returns c = ((λ answers out. lay-step _ _ _ _ _ _ (c .stepped .ensures .0 answers) (omega arith)), search needs)
+returns c = ((λ rs answers out. lay-step _ _ _ _ _ _ _ (c .stepped .ensures .0 rs answers) (omega arith)), search needs)
 
 pub leave-spec : {M : Type 1} → statement M
 leave-spec = tie.close (tie.spec stepped-requires returns)

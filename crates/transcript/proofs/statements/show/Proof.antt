@@ -16,7 +16,7 @@ same-length : tie.Need-same-length
 same-length c = search needs
 
 returns : tie.Need-returns
-returns c = ((λ answers. lay-perform _ _ (print _) _ _ _ _ _ (c .before .before .before .put-shown .ensures) (c .leave .ensures .0 answers _) (omega arith)), search needs)
+returns c = ((λ rs answers. lay-perform _ _ _ (print _) _ _ _ _ _ (c .before .before .before .put-shown .ensures) (c .leave .ensures .0 rs answers _) (omega arith)), search needs)
 
 pub show-spec : {M : Type 1} → statement M
 show-spec = tie.close (tie.spec put-shown-requires leave-requires same-length returns)

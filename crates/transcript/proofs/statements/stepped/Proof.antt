@@ -10,7 +10,7 @@ add-next c = search needs
 
 returns : tie.Need-returns
 unfolding machineState
-returns c = ((λ answers. rw add-one), search needs)
+returns c = ((λ rs answers. rw add-one), search needs)
 
 pub stepped-spec : {M : Type 1} → statement M
 stepped-spec = tie.close (tie.spec add-next returns)

@@ -36,7 +36,7 @@ returns : tie.Need-returns
 returns c =
     let a = c .before .before .before .before .before .before .before .args in
     let v = toZ-ofZ {w = w32} {z = getD (a .answers .now) (a .m .taken) (pos 0)} (record { sfits = c .before .before .before .before .before .v .given }) in
-    (rw v (lay-takes _ _ _ _ _ _ _ (rw v at (c .before .before .before .put-answered .ensures)) (c .before .before .before .before .before .before .before .pre .1)), search needs)
+    (rw v (lay-takes _ _ _ _ _ _ _ _ (rw v at (c .before .before .before .put-answered .ensures)) (c .before .before .before .before .before .before .before .pre .1)), search needs)
 
 pub take-answer-spec : {M : Type 1} → statement M
 take-answer-spec =

@@ -1,4 +1,4 @@
--- `put_instruction` meets its contract: an if and an `else` line with their skips, and every other line by its head.
+-- `put_instruction` meets its contract: an if and an `else` line with their skip, and every other line by its head.
 use Rattle.phrases.specs.Lookup.{phrasesIn}
 use Rattle.translate.proofs.LineInstructions.{if-put, else-put, other-put}
 use borrow.Author.Needs.{needs}
@@ -8,17 +8,14 @@ use Rattle.translate.proofs.instructions.put_instruction.Tie as tie
 enum-known-head : tie.Need-enum-known-head
 enum-known-head c = search needs
 
-if-skip-requires : tie.Need-if-skip-requires
-if-skip-requires c κs = search needs
-
 put-if-requires : tie.Need-put-if-requires
 put-if-requires c κs = search needs
 
 enum-told : tie.Need-enum-told
 enum-told c = search needs
 
-put-else-requires : tie.Need-put-else-requires
-put-else-requires c κs = search needs
+put-goto-requires : tie.Need-put-goto-requires
+put-goto-requires c κs = search needs
 
 sub-put-line : tie.Need-sub-put-line
 sub-put-line c = search needs
@@ -38,31 +35,30 @@ same-length c = search needs
 returns : tie.Need-returns
 returns c =
     let a = c .before .before .before .before .before .before .before .before .before .before .before .args in
-    if-put _ _ _ _ (c .before .before .before .before .before .before .before .before .before .before .before .pre .3 .head) _ _ _ _ _ _ (c .before .before .before .before .before .before .head .given .1) (c .before .before .before .if-skip .ensures) (c .before .before .put-if .ensures (phrasesIn (a .book .now) (a .guide .now) (a .own)))
+    if-put _ _ _ (c .before .before .before .before .before .before .before .before .before .before .before .pre .2 .head) _ _ _ _ _ (c .before .before .before .before .before .head .given .1) (c .before .before .put-if .ensures (phrasesIn (a .book .now) (a .guide .now) (a .own)))
 
 same-length-2 : tie.Need-same-length-2
 same-length-2 c = search needs
 
 returns-2 : tie.Need-returns-2
 returns-2 c =
-    let a = c .before .before .before .before .before .before .before .before .before .args in
-    else-put _ _ _ _ (c .before .before .before .before .before .before .before .before .before .pre .3 .head) (phrasesIn (a .book .now) (a .guide .now) (a .own)) _ _ _ (c .before .before .before .before .enum-told .given .1) (c .before .before .put-else .ensures)
+    let a = c .before .before .before .before .before .before .before .before .before .before .args in
+    else-put _ _ _ (c .before .before .before .before .before .before .before .before .before .before .pre .2 .head) (phrasesIn (a .book .now) (a .guide .now) (a .own)) _ _ _ (c .before .before .before .before .enum-told .given .1) (c .before .before .put-goto .ensures)
 
 same-length-3 : tie.Need-same-length-3
 same-length-3 c = search needs
 
 returns-3 : tie.Need-returns-3
-returns-3 c = other-put _ _ _ _ (c .before .before .before .before .before .before .before .before .before .pre .3 .head) _ _ _ _ (c .before .before .before .before .before .match .keys3) (c .before .before .put-line .ensures)
+returns-3 c = other-put _ _ _ (c .before .before .before .before .before .before .before .before .before .before .pre .2 .head) _ _ _ _ (c .before .before .before .before .before .match .keys3) (c .before .before .put-line .ensures)
 
 pub put-instruction-spec : {M : Type 1} → statement M
 put-instruction-spec =
     tie.close
     (tie.spec
     enum-known-head
-    if-skip-requires
     put-if-requires
     enum-told
-    put-else-requires
+    put-goto-requires
     sub-put-line
     part-put-line-start
     part-put-line-end

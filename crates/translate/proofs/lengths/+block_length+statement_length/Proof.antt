@@ -7,8 +7,8 @@ use native.Mathlib.Omega.{arith}
 use lib.ListN.{length}
 use Rattle.guide.specs.Lines.{linesAt}
 use Rattle.guide.proofs.Reading.{begins-first, else-first}
-use Rattle.translate.specs.Lengths.{behind, blockLength}
-use Rattle.translate.proofs.Counting.{behind-none, block-none, block-ends, block-more, plain-length, if-closed, if-turned}
+use Rattle.translate.specs.Lengths.{blockLength}
+use Rattle.translate.proofs.Counting.{Left, begun, same-size, table-size, block-none, block-ends, block-more, plain-length, if-closed, if-turned}
 use borrow.Fn.Kinds.{In}
 use borrow.Fn.PlainCycle.{Measures, is, falls, and}
 use Rattle.translate.proofs.lengths.block_length.Reads as block-length
@@ -21,41 +21,42 @@ use Rattle.guide.proofs.line_at.Reads as line-at-reads
 use Rattle.guide.proofs.begins.Reads as begins-reads
 use Rattle.guide.proofs.is_else.Reads as is-else-reads
 use Rattle.translate.proofs.lengths.is_if.Reads as is-if-reads
+use Rattle.translate.proofs.table.store.Reads as store-reads
 use Rattle.translate.proofs.lengths.+block_length+statement_length.{statement}
 use Rattle.translate.proofs.lengths.+block_length+statement_length.Tie.{close}
 
-abbrev μ-block-length : Measures 1 block-length-kinds.ps ℕ
+abbrev μ-block-length : Measures 2 block-length-kinds.ps ℕ
 μ-block-length κs a = 2 * a .1 .0
 
-abbrev μ-statement-length : Measures 1 statement-length-kinds.ps ℕ
+abbrev μ-statement-length : Measures 2 statement-length-kinds.ps ℕ
 μ-statement-length κs a = 2 * a .1 .0 + 1
 
-abbrev block-length-at : ℕ → In 1 block-length-kinds.ps
+abbrev block-length-at : ℕ → In 2 block-length-kinds.ps
 block-length-at t =
-    and 1 block-length-kinds.ps (is 1 block-length-kinds.ps μ-block-length t) block-length.Pre
+    and 2 block-length-kinds.ps (is 2 block-length-kinds.ps μ-block-length t) block-length.Pre
 
-abbrev block-length-below : ℕ → In 1 block-length-kinds.ps
+abbrev block-length-below : ℕ → In 2 block-length-kinds.ps
 block-length-below t =
     and
-    1
+    2
     block-length-kinds.ps
-    (falls 1 block-length-kinds.ps _<_ μ-block-length t)
+    (falls 2 block-length-kinds.ps _<_ μ-block-length t)
     block-length.Pre
 
-abbrev statement-length-at : ℕ → In 1 statement-length-kinds.ps
+abbrev statement-length-at : ℕ → In 2 statement-length-kinds.ps
 statement-length-at t =
     and
-    1
+    2
     statement-length-kinds.ps
-    (is 1 statement-length-kinds.ps μ-statement-length t)
+    (is 2 statement-length-kinds.ps μ-statement-length t)
     statement-length.Pre
 
-abbrev statement-length-below : ℕ → In 1 statement-length-kinds.ps
+abbrev statement-length-below : ℕ → In 2 statement-length-kinds.ps
 statement-length-below t =
     and
-    1
+    2
     statement-length-kinds.ps
-    (falls 1 statement-length-kinds.ps _<_ μ-statement-length t)
+    (falls 2 statement-length-kinds.ps _<_ μ-statement-length t)
     statement-length.Pre
 
 abbrev block-length-calls : ℕ → block-length-lts.Claims
@@ -78,50 +79,76 @@ statement-length-calls t = (
   line-at-reads.Learnt,
   is-else-reads.Asked,
   is-else-reads.Learnt,
+  store-reads.Asked,
+  store-reads.Learnt,
 )
 
 abbrev block-length-Inv-loop : block-length-lts.InvT-loop
-block-length-Inv-loop guide lines a left₀ instructions₀ at₀ left instructions at =
-    (behind instructions (blockLength left (linesAt guide at)) ≡ blockLength lines (linesAt guide a)) × (a + instructions ≤ at) × (at ≤ length guide) × (left ≤ lines)
+block-length-Inv-loop guide lines a skips₀ first left₀ instructions₀ at₀ skips left instructions at =
+    Left first skips₀ instructions skips (blockLength left (linesAt guide at)) (blockLength lines (linesAt guide a))
+    × (a + instructions ≤ at)
+    × (at ≤ length guide)
+    × (left ≤ lines)
 
 abbrev block-length-μ-loop : block-length-lts.MeasureT-loop
-block-length-μ-loop guide lines a left₀ instructions₀ at₀ left instructions at = left
+block-length-μ-loop guide lines a skips₀ first left₀ instructions₀ at₀ skips left instructions at = left
 
 block-length-loop-holds : (t : ℕ) → block-length-lts.Need-loop-holds (block-length-calls t) (block-length-at t) block-length.Post block-length-Inv-loop block-length-μ-loop
-block-length-loop-holds t c = (behind-none _, search needs, search needs, search needs)
+block-length-loop-holds t c = (begun _ _ _, search needs, search needs, search needs)
 
 block-length-statement-length-requires : (t : ℕ) → block-length-lts.Need-statement-length-requires (block-length-calls t) (block-length-at t) block-length.Post block-length-Inv-loop block-length-μ-loop
 block-length-statement-length-requires t c κs =
-    (search needs, search needs)
+    let k = begins-first _ _ _ (c .before .before .before .line-at .ensures) (sym (c .before .before .begins .ensures) ∙ c .before .if1 .taken) .further in
+    (search needs, (omega arith, search needs, search needs))
 
 block-length-add-instructions : (t : ℕ) → block-length-lts.Need-add-instructions (block-length-calls t) (block-length-at t) block-length.Post block-length-Inv-loop block-length-μ-loop
 block-length-add-instructions t c =
-    let k = begins-first _ _ _ (c .before .before .before .before .line-at .ensures) (sym (c .before .before .before .begins .ensures) ∙ c .before .before .if1 .taken) .further in
-    omega (arith, c .before .statement-length .ensures .1)
+    let k = begins-first _ _ _ (c .before .before .before .before .before .before .before .line-at .ensures) (sym (c .before .before .before .before .before .before .begins .ensures) ∙ c .before .before .before .before .before .if1 .taken) .further in
+    omega (arith, c .before .before .before .statement-length .ensures .1)
 
 block-length-loop-again : (t : ℕ) → block-length-lts.Need-loop-again (block-length-calls t) (block-length-at t) block-length.Post block-length-Inv-loop block-length-μ-loop
 block-length-loop-again t c =
-    let v = sym (c .before .before .before .begins .ensures) ∙ c .before .before .if1 .taken in
-    let k = begins-first _ _ _ (c .before .before .before .before .line-at .ensures) v .further in
-    let n = c .before .statement-length .ensures .1 in
-    (block-more _ _ _ _ _ (c .before .before .before .before .before .before .loop .inv .0) _ _ (c .before .before .before .before .before .loop-test .taken) (c .before .before .before .before .line-at .ensures) v (c .before .statement-length .ensures .0), omega arith, omega arith, omega arith)
+    let v = sym (c .before .before .before .before .before .before .begins .ensures) ∙ c .before .before .before .before .before .if1 .taken in
+    let k = begins-first _ _ _ (c .before .before .before .before .before .before .before .line-at .ensures) v .further in
+    let n = c .before .before .before .statement-length .ensures .1 in
+    (block-more _ _ _ _ _ _ _ _ (c .before .before .before .before .before .before .before .before .before .loop .inv .0) _ _ _ (c .before .before .before .before .before .before .before .before .loop-test .taken) (c .before .before .before .before .before .before .before .line-at .ensures) v (c .before .before .before .statement-length .ensures .0), omega arith, omega arith, omega arith)
+
+block-length-same-length : (t : ℕ) → block-length-lts.Need-same-length (block-length-calls t) (block-length-at t) block-length.Post block-length-Inv-loop block-length-μ-loop
+block-length-same-length t c = same-size (c .before .before .before .before .loop .inv .0)
 
 block-length-returns : (t : ℕ) → block-length-lts.Need-returns (block-length-calls t) (block-length-at t) block-length.Post block-length-Inv-loop block-length-μ-loop
-block-length-returns t c = (block-ends _ (c .before .before .before .before .loop .left) _ _ _ (c .before .before .before .before .loop .inv .0) _ (c .before .before .line-at .ensures) (sym (c .before .begins .ensures) ∙ c .if1 .left) (search needs), search needs)
+block-length-returns t c = (block-ends _ _ _ (c .before .before .before .before .loop .left) _ _ _ _ (c .before .before .before .before .loop .inv .0) _ (c .before .before .line-at .ensures) (sym (c .before .begins .ensures) ∙ c .if1 .left) (search needs), search needs)
+
+block-length-same-length-2 : (t : ℕ) → block-length-lts.Need-same-length-2 (block-length-calls t) (block-length-at t) block-length.Post block-length-Inv-loop block-length-μ-loop
+block-length-same-length-2 t c = same-size (c .before .loop .inv .0)
 
 block-length-returns-2 : (t : ℕ) → block-length-lts.Need-returns-2 (block-length-calls t) (block-length-at t) block-length.Post block-length-Inv-loop block-length-μ-loop
-block-length-returns-2 t c = (block-none _ (c .before .loop .left) _ _ _ (c .before .loop .inv .0) (c .loop-test .left) (search needs), search needs)
+block-length-returns-2 t c = (block-none _ _ _ (c .before .loop .left) _ _ _ _ (c .before .loop .inv .0) (c .loop-test .left) (search needs), search needs)
+
+statement-length-block-length-requires-2 : (t : ℕ) → statement-length-lts.Need-block-length-requires-2 (statement-length-calls t) (statement-length-at t) statement-length.Post
+statement-length-block-length-requires-2 t c κs =
+    let k = else-first _ _ _ (c .before .before .before .before .line-at .ensures) (sym (c .before .before .before .is-else .ensures) ∙ c .before .before .if2 .taken) .further in
+    (search needs, (omega (arith, c .before .before .before .before .before .before .before .block-length .ensures .1), search needs, search needs))
 
 statement-length-returns : (t : ℕ) → statement-length-lts.Need-returns (statement-length-calls t) (statement-length-at t) statement-length.Post
 statement-length-returns t c =
-    let k = else-first _ _ _ (c .before .before .before .before .before .before .line-at .ensures) (sym (c .before .before .before .before .before .is-else .ensures) ∙ c .before .before .before .before .if2 .taken) .further in
-    (if-turned _ (c .before .before .before .before .before .before .before .before .before .before .before .args .h .role) (blockLength (c .before .before .before .before .before .before .before .before .before .before .before .args .left)) (c .before .before .before .before .before .before .before .before .before .before .before .args .h .next) (sym (c .before .before .before .before .before .before .before .before .before .is-if .ensures) ∙ c .before .before .before .before .before .before .before .before .if1 .taken) _ (c .before .before .before .before .before .before .before .block-length .ensures .0) _ (c .before .before .before .before .before .before .line-at .ensures) (sym (c .before .before .before .before .before .is-else .ensures) ∙ c .before .before .before .before .if2 .taken) _ (c .before .before .before .block-length2 .ensures .0) _ (c .before .before .line-at2 .ensures), search needs)
+    let a = c .before .before .before .before .before .before .before .before .before .before .before .before .before .before .before .before .before .before .before .before .before .before .before .before .before .before .before .before .args in
+    let w = sym (c .before .before .before .before .before .before .before .before .before .before .before .before .before .before .before .before .before .before .is-else .ensures) ∙ c .before .before .before .before .before .before .before .before .before .before .before .before .before .before .before .before .before .if2 .taken in
+    let k = else-first _ _ _ (c .before .before .before .before .before .before .before .before .before .before .before .before .before .before .before .before .before .before .before .line-at .ensures) w .further in
+    (if-turned _ _ _ (a .h .role) (blockLength (a .left)) (a .h .next) (sym (c .before .before .before .before .before .before .before .before .before .before .before .before .before .before .before .before .before .before .before .before .before .before .before .before .before .is-if .ensures) ∙ c .before .before .before .before .before .before .before .before .before .before .before .before .before .before .before .before .before .before .before .before .before .before .before .before .if1 .taken) _ _ (c .before .before .before .before .before .before .before .before .before .before .before .before .before .before .before .before .before .before .before .before .before .before .block-length .ensures .0) _ (c .before .before .before .before .before .before .before .before .before .before .before .before .before .before .before .before .before .before .before .line-at .ensures) w _ _ (c .before .before .before .before .before .before .before .before .before .before .before .before .before .before .block-length2 .ensures .0) _ (c .before .before .before .before .before .before .before .before .before .before .before .line-at2 .ensures) _ _ (c .before .before .before .before .before .before .before .before .before .store .ensures) (c .before .before .before .before .store2 .ensures), omega (arith, c .before .before .before .before .before .before .before .before .before .before .before .before .before .before .before .before .before .before .before .before .before .before .block-length .ensures .1, c .before .before .before .before .before .before .before .before .before .before .before .before .before .before .block-length2 .ensures .1, c .before .before .before .before .before .before .before .before .before .before .before .line-at2 .ensures .onward))
+
+statement-length-same-length : (t : ℕ) → statement-length-lts.Need-same-length (statement-length-calls t) (statement-length-at t) statement-length.Post
+statement-length-same-length t c = table-size (statement-length-returns t c .0)
 
 statement-length-returns-2 : (t : ℕ) → statement-length-lts.Need-returns-2 (statement-length-calls t) (statement-length-at t) statement-length.Post
-statement-length-returns-2 t c = (if-closed _ (c .before .before .before .before .before .before .before .before .args .h .role) (blockLength (c .before .before .before .before .before .before .before .before .args .left)) (c .before .before .before .before .before .before .before .before .args .h .next) (sym (c .before .before .before .before .before .before .is-if .ensures) ∙ c .before .before .before .before .before .if1 .taken) _ (c .before .before .before .before .block-length .ensures .0) _ (c .before .before .before .line-at .ensures) (sym (c .before .before .is-else .ensures) ∙ c .before .if2 .left), search needs)
+statement-length-returns-2 t c =
+    let a = c .before .before .before .before .before .before .before .before .before .before .before .before .before .before .before .before .args in
+    (if-closed _ _ _ (a .h .role) (blockLength (a .left)) (a .h .next) (sym (c .before .before .before .before .before .before .before .before .before .before .before .before .before .is-if .ensures) ∙ c .before .before .before .before .before .before .before .before .before .before .before .before .if1 .taken) _ _ (c .before .before .before .before .before .before .before .before .before .before .block-length .ensures .0) _ (c .before .before .before .before .before .before .before .line-at .ensures) (sym (c .before .before .before .before .before .before .is-else .ensures) ∙ c .before .before .before .before .before .if2 .left) _ (c .before .before .before .store3 .ensures), search needs)
 
 statement-length-returns-3 : (t : ℕ) → statement-length-lts.Need-returns-3 (statement-length-calls t) (statement-length-at t) statement-length.Post
-statement-length-returns-3 t c = (plain-length _ (c .before .before .before .args .h .role) (blockLength (c .before .before .before .args .left)) _ (sym (c .before .is-if .ensures) ∙ c .if1 .left) (search needs), search needs)
+statement-length-returns-3 t c =
+    let a = c .before .before .before .before .before .before .before .before .args in
+    (plain-length _ _ _ (a .h .role) (blockLength (a .left)) _ _ (sym (c .before .before .before .before .before .is-if .ensures) ∙ c .before .before .before .before .if1 .left) (search needs) (c .before .before .store4 .ensures), search needs)
 
 pub +block-length+statement-length-spec : {M : Type 1} → statement M
 +block-length+statement-length-spec =
@@ -134,24 +161,39 @@ pub +block-length+statement-length-spec : {M : Type 1} → statement M
     (λ c. search needs)
     (λ c κs. search needs)
     (λ c κs. search needs)
+    (λ c. search needs)
     (block-length-statement-length-requires t)
     (block-length-add-instructions t)
     (λ c. search needs)
     (block-length-loop-again t)
+    (block-length-same-length t)
     (block-length-returns t)
+    (block-length-same-length-2 t)
     (block-length-returns-2 t))
     λ t. statement-length-lts.spec (statement-length-calls t)
     (statement-length-at t)
     statement-length.Post
     (λ c κs. search needs)
-    (λ c κs. search needs)
-    (λ c κs. search needs)
+    (λ c. search needs)
     (λ c κs. search needs)
     (λ c κs. search needs)
     (λ c κs. search needs)
     (λ c. search needs)
     (λ c. search needs)
+    (λ c. search needs)
+    (statement-length-block-length-requires-2 t)
+    (λ c κs. search needs)
+    (λ c κs. omega (arith, c .before .before .before .before .block-length2 .ensures .1, c .before .before .before .before .block-length2 .ensures .0 .within, c .before .before .before .before .before .before .before .before .before .before .before .before .before .before .before .before .before .before .pre .1 .2))
+    (λ c. omega (arith, c .before .before .before .before .before .before .before .before .before .before .before .before .before .before .before .before .before .block-length .ensures .1, c .before .before .before .before .before .before .before .before .before .before .before .before .before .before .before .before .before .block-length .ensures .0 .within, c .before .before .before .before .before .before .before .before .before .before .before .before .before .before .before .before .before .before .before .before .before .before .before .pre .1 .2))
+    (λ c κs. omega (arith, c .before .before .before .before .before .before .before .before .before .before .before .before .before .before .before .before .before .block-length .ensures .1, c .before .before .before .before .before .before .before .before .before .before .before .before .before .before .before .before .before .block-length .ensures .0 .within, c .before .before .before .before .before .before .before .before .before .before .before .before .before .before .before .before .before .before .before .before .before .before .before .pre .1 .2))
+    (λ c. omega (arith, c .before .before .before .before .before .before .before .before .before .before .before .before .before .before .before .before .before .before .before .before .before .before .block-length .ensures .1, c .before .before .before .before .before .before .before .before .before .before .before .before .before .before .before .before .before .before .before .before .before .before .block-length .ensures .0 .within, c .before .before .before .before .before .before .before .before .before .before .before .before .before .before .block-length2 .ensures .1, c .before .before .before .before .before .before .before .before .before .before .before .before .before .before .block-length2 .ensures .0 .within, c .before .before .before .before .before .before .before .before .before .before .before .before .before .before .before .before .before .before .before .before .before .before .before .before .before .before .before .before .pre .1 .2))
+    (λ c. omega (arith, c .before .before .before .before .before .before .before .before .before .before .before .before .before .before .before .before .before .before .before .before .before .before .block-length .ensures .1, c .before .before .before .before .before .before .before .before .before .before .before .before .before .before .before .before .before .before .before .before .before .before .block-length .ensures .0 .within, c .before .before .before .before .before .before .before .before .before .before .before .before .before .before .block-length2 .ensures .1, c .before .before .before .before .before .before .before .before .before .before .before .before .before .before .block-length2 .ensures .0 .within, c .before .before .before .before .before .before .before .before .before .before .before .before .before .before .before .before .before .before .before .before .before .before .before .before .before .before .before .before .pre .1 .2))
+    (statement-length-same-length t)
     (statement-length-returns t)
+    (λ c κs. omega (arith, c .before .before .before .before .before .before .block-length .ensures .1, c .before .before .before .before .before .before .block-length .ensures .0 .within, c .before .before .before .before .before .before .before .before .before .before .before .before .pre .1 .2))
+    (λ c. omega (arith, c .before .before .before .before .before .before .before .before .before .before .block-length .ensures .1, c .before .before .before .before .before .before .before .before .before .before .block-length .ensures .0 .within, c .before .before .before .before .before .before .before .before .before .before .before .before .before .before .before .before .pre .1 .2))
     (λ c. search needs)
     (statement-length-returns-2 t)
+    (λ c κs. search needs)
+    (λ c. search needs)
     (statement-length-returns-3 t)

@@ -7,7 +7,7 @@ use Rattle.walk.proofs.leave.here.Statement.{statement}
 use Rattle.walk.proofs.leave.here.Tie as tie
 
 returns : tie.Need-returns
-returns c = ((λ g answers out. leaves-here g answers _ _ _ out (omega arith)), search needs)
+returns c = ((λ g rs answers out. leaves-here g answers rs _ _ _ out (omega arith)), search needs)
 
 pub here-spec : {M : Type 1} → statement M
 here-spec = tie.close (tie.spec returns)

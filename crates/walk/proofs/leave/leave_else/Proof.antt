@@ -13,7 +13,7 @@ here-requires : tie.Need-here-requires
 here-requires c κs = search needs
 
 returns : tie.Need-returns
-returns c = ((λ answers out. leaves-as _ _ _ _ _ _ _ (c .here .ensures .0 _ answers out) _ (leave-second _ _ _ (c .before .line-at .ensures) _)), search needs)
+returns c = ((λ rs answers out. leaves-as _ _ _ _ _ _ _ _ (c .here .ensures .0 _ rs answers out) _ (leave-second _ _ _ (c .before .line-at .ensures) _)), search needs)
 
 pub leave-else-spec : {M : Type 1} → statement M
 leave-else-spec = tie.close (tie.spec line-at-requires here-requires returns)

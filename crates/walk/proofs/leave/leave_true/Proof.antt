@@ -29,7 +29,7 @@ here-requires c κs = search needs
 returns : tie.Need-returns
 returns c =
     let v = sym (c .before .before .before .before .before .is-else .ensures) ∙ c .before .before .before .before .if1 .taken in (
-      (λ answers out. leaves-as _ _ _ _ _ _ _ (c .here .ensures .0 _ answers out) _ (leave-turned _ _ _ (c .before .before .before .before .before .before .line-at .ensures) _ _ _ _ v (c .before .before .before .pass-over .ensures .0) (c .before .before .line-at2 .ensures) (c .before .stepped .ensures .0 answers))),
+      (λ rs answers out. leaves-as _ _ _ _ _ _ _ _ (c .here .ensures .0 _ rs answers out) _ (leave-turned _ _ _ (c .before .before .before .before .before .before .line-at .ensures) _ _ _ _ v (c .before .before .before .pass-over .ensures .0) (c .before .before .line-at2 .ensures) (c .before .stepped .ensures .0 rs answers))),
       (let k = else-first _ _ _ (c .before .before .before .before .before .before .line-at .ensures) v .further in record { steps = omega arith; within = omega arith }),
     )
 
@@ -37,7 +37,7 @@ here-requires-2 : tie.Need-here-requires-2
 here-requires-2 c κs = search needs
 
 returns-2 : tie.Need-returns-2
-returns-2 c = ((λ answers out. leaves-as _ _ _ _ _ _ _ (c .here2 .ensures .0 _ answers out) _ (leave-closed _ _ _ (c .before .before .before .line-at .ensures) _ (sym (c .before .before .is-else .ensures) ∙ c .before .if1 .left))), search needs)
+returns-2 c = ((λ rs answers out. leaves-as _ _ _ _ _ _ _ _ (c .here2 .ensures .0 _ rs answers out) _ (leave-closed _ _ _ (c .before .before .before .line-at .ensures) _ (sym (c .before .before .is-else .ensures) ∙ c .before .if1 .left))), search needs)
 
 pub leave-true-spec : {M : Type 1} → statement M
 leave-true-spec =

@@ -19,7 +19,7 @@ same-length : tie.Need-same-length
 same-length c = search needs
 
 returns : tie.Need-returns
-returns c = text-laid _ _ _ _ _ _ (c .before .before .before .before .fresh .ensures _) (c .before .before .before .block .ensures .0)
+returns c = (_, text-laid _ _ _ _ _ _ _ _ (c .before .before .before .before .fresh .ensures _) (c .before .before .before .block .ensures .0))
 
 pub produce-spec : {M : Type 1} → statement M
 produce-spec = tie.close (tie.spec add-block fresh-requires block-requires same-length returns)

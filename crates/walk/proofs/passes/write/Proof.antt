@@ -12,7 +12,7 @@ produce-requires : tie.Need-produce-requires
 produce-requires c κs = search needs
 
 returns : tie.Need-returns
-returns c = too-short _ _ _ _ _ (c .before .before .produce .ensures) _ (c .if1 .taken)
+returns c = too-short _ _ _ _ _ _ (c .before .before .produce .ensures .1) _ (omega arith)
 
 produce-requires-2 : tie.Need-produce-requires-2
 produce-requires-2 c κs = search needs
@@ -21,7 +21,7 @@ same-length : tie.Need-same-length
 same-length c = search needs
 
 returns-2 : tie.Need-returns-2
-returns-2 c = whole _ _ _ _ _ (c .before .before .before .before .before .before .before .produce .ensures) _ _ _ (c .before .before .before .produce2 .ensures) (c .before .before .before .before .before .if1 .left) (omega arith)
+returns-2 c = whole _ _ _ _ _ _ (c .before .before .before .before .before .before .before .produce .ensures .1) _ _ _ _ (c .before .before .before .produce2 .ensures .1) (omega arith) (omega arith)
 
 pub write-spec : {M : Type 1} → statement M
 write-spec =

@@ -26,8 +26,8 @@ same-length c = search needs
 
 returns : tie.Need-returns
 returns c =
-    let w = write-offered _ _ _ _ _ _ _ _ _ (rw (c .before .before .before .before .before .before .before .before .before .before .before .before .before .before .before .part .ensures) at (c .before .before .before .before .before .before .before .before .before .before .before .before .before .before .put-offer .ensures)) (c .before .before .before .before .before .before .before .before .before .before .put-options .ensures) (c .before .before .before .before .before .before .put-end .ensures) (omega (arith, c .before .before .before .before .before .before .before .before .before .before .before .before .before .before .before .before .before .before .before .good)) in
-    (lay-offered _ _ _ _ _ _ _ _ _ _ _ w (c .before .before .choose .ensures .0) (c .before .before .before .before .before .before .before .before .before .before .before .before .before .before .before .before .before .before .before .pre .1) (omega (arith, c .before .before .before .before .before .before .before .before .before .before .before .before .before .before .before .before .before .before .before .good)), c .before .before .choose .ensures .1 .0)
+    let w = write-offered _ _ _ _ _ _ _ _ _ (rw (c .before .before .before .before .before .before .before .before .before .before .before .before .before .before .before .before .part .ensures) at (c .before .before .before .before .before .before .before .before .before .before .before .before .before .before .before .put-offer .ensures)) (c .before .before .before .before .before .before .before .before .before .before .before .put-options .ensures) (c .before .before .before .before .before .before .before .put-end .ensures) (omega (arith, c .before .before .before .before .before .before .before .before .before .before .before .before .before .before .before .before .before .before .before .before .good)) in
+    (lay-offered _ _ _ _ _ _ _ _ _ _ _ _ w (c .before .before .choose .ensures .0) (c .before .before .before .before .before .before .before .before .before .before .before .before .before .before .before .before .before .before .before .before .pre .1) (omega (arith, c .before .before .before .before .before .before .before .before .before .before .before .before .before .before .before .before .before .before .before .before .good)), c .before .before .choose .ensures .1 .0)
 
 pub offer-spec : {M : Type 1} → statement M
 offer-spec =

@@ -12,25 +12,25 @@ use Rattle.listing.specs.Listing.{instructionsOf}
 use Rattle.writer.proofs.Writes.{both, Left, begun, turned, done}
 use Rattle.writer.proofs.Plates.{filling}
 use Rattle.write_plate.proofs.Ahead.{Ahead, ahead-next}
-use Rattle.write_plate.proofs.AcceptedListing.{few-own, instructions-count, accepted-ahead}
+use Rattle.write_plate.proofs.AcceptedListing.{few-own, phrases-count, instructions-count, accepted-ahead}
 use Rattle.write_plate.proofs.InstructionLines.{instructionsFrom, bits-next, bits-end}
 use Rattle.write_plate.proofs.passes.produce.Statement.{statement}
 use Rattle.write_plate.proofs.passes.produce.Tie as tie
 
 abbrev Inv-loop : tie.InvT-loop
-Inv-loop out₀ book listing own instructions end₀ a₀ out end a =
+Inv-loop out₀ index book listing own instructions end₀ a₀ out end a =
     let c = phrasesIn book listing own in
     Ahead listing a
     × Left end₀ (instructionsBits c (instructionsOf (linesOf Listing listing))) out₀ end (instructionsBits c (instructionsFrom listing a)) out
 
 abbrev μ-loop : tie.MeasureT-loop
-μ-loop out₀ book listing own instructions end₀ a₀ out end a = length listing - a
+μ-loop out₀ index book listing own instructions end₀ a₀ out end a = length listing - a
 
 put-front-requires : tie.Need-put-front-requires Inv-loop μ-loop
 put-front-requires c κs = search needs
 
 loop-holds : tie.Need-loop-holds Inv-loop μ-loop
-loop-holds c = (accepted-ahead (c .before .before .before .before .before .before .before .pre .2), begun _ _ refl (search needs))
+loop-holds c = (accepted-ahead (c .before .before .before .before .before .before .before .before .pre .2), begun _ _ refl (search needs))
 
 find-requires : tie.Need-find-requires Inv-loop μ-loop
 find-requires c κs = search needs
@@ -50,8 +50,8 @@ read-line-requires c κs = search needs
 put-line-requires : tie.Need-put-line-requires Inv-loop μ-loop
 put-line-requires c κs =
     let l = c .before .before .before .before .before in
-    let start = l .before .before .before .before .before .before .before .before in
-    (omega (arith, l .loop .inv .1 .size), start .pre .1, omega (arith, few-own (start .pre .2)))
+    let start = l .before .before .before .before .before .before .before .before .before in
+    (omega (arith, l .loop .inv .1 .size), (start .pre .1, phrases-count (start .pre .2), omega (arith, few-own (start .pre .2))))
 
 add-a : tie.Need-add-a Inv-loop μ-loop
 add-a c = search needs
@@ -78,7 +78,7 @@ returns : tie.Need-returns Inv-loop μ-loop
 unfolding programBits
 returns c =
     let front = c .before .before .before .before .before .before .before .before in
-    let start = front .before .before .before .before .before in
+    let start = front .before .before .before .before .before .before in
     let lines = done (c .before .before .before .before .before .loop .inv .1) (bits-end _ _ _ (c .before .before .before .before .loop-test .left)) in
     let program = both _ _ _ _ (front .put-front .ensures) lines (start .pre .0) in
     rw (instructions-count (start .pre .2)) (filling _ _ program (c .before .before .put-fill .ensures) (start .pre .0))

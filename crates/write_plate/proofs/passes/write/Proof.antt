@@ -30,7 +30,7 @@ slice-aggregate-produce-2 c = sym (room-part _ _ (sym (c .before .before .before
 produce-requires-2 : tie.Need-produce-requires-2
 produce-requires-2 c κs =
     let room = c .before .before .before .before in
-    let start = room .before .before .before .before .before .before .before in
+    let start = room .before .before .before .before .before .before .before .before in
     (room-part _ _ (sym (room .plate-room .ensures) ∙ c .before .before .length .given .1) .1, start .pre .0, start .pre .1)
 
 returns : tie.Need-returns

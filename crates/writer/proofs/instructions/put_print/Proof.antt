@@ -14,7 +14,7 @@ same-length : tie.Need-same-length
 same-length c = search needs
 
 returns : tie.Need-returns
-returns c = both _ _ _ _ (c .before .before .before .before .before .before .put-bits .ensures) (c .before .before .put-text .ensures) (c .before .before .before .before .before .before .before .before .before .before .before .before .pre .0)
+returns c = both _ _ _ _ (c .before .before .before .before .before .before .put-bits .ensures) (c .before .before .put-text .ensures) (c .before .before .before .before .before .before .before .before .before .before .before .before .before .pre .0)
 
 pub put-print-spec : {M : Type 1} → statement M
 put-print-spec = tie.close (tie.spec put-bits-requires put-text-requires same-length returns)

@@ -86,7 +86,7 @@ same-length-6 c = search needs
 
 returns-6 : tie.Need-returns-6
 returns-6 c =
-    let a = c .before .before .before .before .before .before .before .before .before .before .before .args in
+    let a = c .before .before .before .before .before .before .before .before .before .before .before .before .args in
     line-writes _ _ _ _ (c .before .before .before .before .before .head4 .given .1) _ _ _ _ refl (c .before .before .put-if .ensures (phrasesIn (a .book .now) (a .own .now) (a .count)))
 
 returns-7 : tie.Need-returns-7

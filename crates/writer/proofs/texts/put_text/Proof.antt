@@ -1,11 +1,13 @@
 -- `put_text` meets its contract: a place in the book, one among the own phrases, or the characters.
-use native.Mathlib.Nat.{le-trans}
-use mathlib.Core.Path.{sym, _∙_}
+use native.Mathlib.Omega.{arith}
+use mathlib.Core.Path.{sym, ap, _∙_}
 use borrow.Author.Needs.{needs}
+use Rattle.phrases.specs.Phrases.{width}
 use Rattle.phrases.proofs.Answers.{found-is}
+use Rattle.phrases.proofs.Entries.{indexed-count}
 use Rattle.plate.specs.Writing.{textBits}
 use Rattle.writer.proofs.Writes.{both}
-use Rattle.writer.proofs.TextBits.{width-fits, own-counted}
+use Rattle.writer.proofs.TextBits.{width-fits}
 use Rattle.writer.proofs.texts.put_text.Statement.{statement}
 use Rattle.writer.proofs.texts.put_text.Tie as tie
 
@@ -17,9 +19,6 @@ enum-known-i c = search needs
 
 put-source-requires : tie.Need-put-source-requires
 put-source-requires c κs = search needs
-
-count-texts-requires : tie.Need-count-texts-requires
-count-texts-requires c κs = search needs
 
 width-of-requires : tie.Need-width-of-requires
 width-of-requires c κs = search needs
@@ -33,14 +32,11 @@ enum-known-i-2 c = search needs
 put-source-requires-2 : tie.Need-put-source-requires-2
 put-source-requires-2 c κs = search needs
 
-count-own-requires : tie.Need-count-own-requires
-count-own-requires c κs = search needs
-
 width-of-requires-2 : tie.Need-width-of-requires-2
-width-of-requires-2 c κs = rw (c .count-own .ensures) (le-trans (own-counted _ _) (c .before .before .before .before .before .before .before .before .before .before .before .before .before .before .pre .2))
+width-of-requires-2 c κs = search needs
 
 put-bits-requires-2 : tie.Need-put-bits-requires-2
-put-bits-requires-2 c κs = rw (c .width-of2 .ensures, c .before .count-own .ensures) (width-fits _ (le-trans (own-counted _ _) (c .before .before .before .before .before .before .before .before .before .before .before .before .before .before .before .pre .2)))
+put-bits-requires-2 c κs = rw (c .width-of2 .ensures) (width-fits _ (search needs))
 
 enum-told : tie.Need-enum-told
 enum-told c = search needs
@@ -57,11 +53,13 @@ same-length c = search needs
 returns : tie.Need-returns
 unfolding textBits
 returns c =
-    let s = c .before .before .before .before .before .before .before .before in
+    let w = c .before .before .before in
+    let s = w .before .before .before .before in
     let f = s .before .before .before .before .before in
+    let start = f .before .before .before .before .before .before in
     let found = found-is _ _ (sym (f .find-phrase .ensures) ∙ s .before .before .before .i .given .1) in
-    let place = rw (c .before .before .before .width-of .ensures, c .before .before .before .before .count-texts .ensures) at (c .before .before .put-bits .ensures) in
-    rw found (both _ _ _ _ (s .put-source .ensures) place (f .before .before .before .before .before .pre .0))
+    let size = w .width-of .ensures ∙ ap width (sym (indexed-count _ _ (start .pre .1 .0))) in
+    rw found (both _ _ _ _ (s .put-source .ensures) (rw size at (c .before .before .put-bits .ensures)) (start .pre .0))
 
 same-length-2 : tie.Need-same-length-2
 same-length-2 c = search needs
@@ -69,11 +67,13 @@ same-length-2 c = search needs
 returns-2 : tie.Need-returns-2
 unfolding textBits
 returns-2 c =
-    let s = c .before .before .before .before .before .before .before .before in
+    let w = c .before .before .before in
+    let s = w .before .before .before .before in
     let f = s .before .before .before .before .before in
+    let start = f .before .before .before .before .before .before in
     let found = found-is _ _ (sym (f .find-phrase .ensures) ∙ s .before .before .before .i2 .given .1) in
-    let place = rw (c .before .before .before .width-of2 .ensures, c .before .before .before .before .count-own .ensures) at (c .before .before .put-bits2 .ensures) in
-    rw found (both _ _ _ _ (s .put-source2 .ensures) place (f .before .before .before .before .before .pre .0))
+    let size = w .width-of2 .ensures ∙ ap width (sym (start .pre .1 .1)) in
+    rw found (both _ _ _ _ (s .put-source2 .ensures) (rw size at (c .before .before .put-bits2 .ensures)) (start .pre .0))
 
 same-length-3 : tie.Need-same-length-3
 same-length-3 c = search needs
@@ -84,7 +84,7 @@ returns-3 c =
     let b = c .before .before .before .before .before .before in
     let f = b .before .before .before .before in
     let found = found-is _ _ (sym (f .find-phrase .ensures) ∙ b .before .before .enum-told .given .1) in
-    rw found (both _ _ _ _ (b .put-bits3 .ensures) (c .before .before .put-spelled .ensures) (f .before .before .before .before .before .pre .0))
+    rw found (both _ _ _ _ (b .put-bits3 .ensures) (c .before .before .put-spelled .ensures) (f .before .before .before .before .before .before .pre .0))
 
 pub put-text-spec : {M : Type 1} → statement M
 put-text-spec =
@@ -93,12 +93,10 @@ put-text-spec =
     find-phrase-requires
     enum-known-i
     put-source-requires
-    count-texts-requires
     width-of-requires
     put-bits-requires
     enum-known-i-2
     put-source-requires-2
-    count-own-requires
     width-of-requires-2
     put-bits-requires-2
     enum-told

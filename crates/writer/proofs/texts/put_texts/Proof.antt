@@ -1,9 +1,9 @@
--- `put_texts` meets its contract: the fields from field i on are left to write.
-use Prim.Native.Nat.{_-_}
-use mathlib.Core.Path.{refl}
-use lib.ListN.{drop}
+-- `put_texts` meets its contract: the fields from the place a on are left to write.
+use Prim.Native.Nat.{_+_, _-_, _≤_}
+use mathlib.Core.Path.{ap}
+use lib.ListN.{length, drop}
 use borrow.Author.Needs.{needs}
-use Rattle.text.specs.Parts.{split, comma}
+use Rattle.text.specs.Parts.{split, partsFrom, comma}
 use Rattle.phrases.specs.Lookup.{phrasesIn}
 use Rattle.plate.specs.Writing.{textsBits}
 use Rattle.writer.proofs.Writes.{Left, begun, turned, done}
@@ -12,42 +12,52 @@ use Rattle.writer.proofs.texts.put_texts.Statement.{statement}
 use Rattle.writer.proofs.texts.put_texts.Tie as tie
 
 abbrev Inv-loop : tie.InvT-loop
-Inv-loop out₀ at line k book own count n end₀ i₀ out end i =
-    Left at (textsBits (phrasesIn book own count) (drop k (split comma line))) out₀ end (textsBits (phrasesIn book own count) (drop i (split comma line))) out
+Inv-loop out₀ at line k index book own count end₀ a₀ out end a =
+    Left at (textsBits (phrasesIn book own count) (drop k (split comma line))) out₀ end (textsBits (phrasesIn book own count) (partsFrom comma a line)) out
 
 abbrev μ-loop : tie.MeasureT-loop
-μ-loop out₀ at line k book own count n end₀ i₀ out end i = n - i
+μ-loop out₀ at line k index book own count end₀ a₀ out end a = length line + 1 - a
 
-count-parts-requires : tie.Need-count-parts-requires Inv-loop μ-loop
-count-parts-requires c κs = search needs
+part-start-requires : tie.Need-part-start-requires Inv-loop μ-loop
+part-start-requires c κs = search needs
 
 loop-holds : tie.Need-loop-holds Inv-loop μ-loop
-loop-holds c = begun _ _ refl (search needs)
+loop-holds c = begun _ _ (ap (textsBits _) (c .part-start .ensures)) (search needs)
 
-part-requires : tie.Need-part-requires Inv-loop μ-loop
-part-requires c κs = search needs
+find-requires : tie.Need-find-requires Inv-loop μ-loop
+find-requires c κs = search needs
+
+sub-put-text : tie.Need-sub-put-text Inv-loop μ-loop
+sub-put-text c = search needs
+
+part-put-text-start : tie.Need-part-put-text-start Inv-loop μ-loop
+part-put-text-start c = search needs
+
+part-put-text-end : tie.Need-part-put-text-end Inv-loop μ-loop
+part-put-text-end c = search needs
 
 put-text-requires : tie.Need-put-text-requires Inv-loop μ-loop
 put-text-requires c κs = search needs
 
-add-i : tie.Need-add-i Inv-loop μ-loop
-add-i c = search needs
+add-a : tie.Need-add-a Inv-loop μ-loop
+add-a c = search needs
 
 loop-less : tie.Need-loop-less Inv-loop μ-loop
 loop-less c = search needs
 
 loop-again : tie.Need-loop-again Inv-loop μ-loop
 loop-again c =
-    let l = c .before .before .before .before .before .before in
-    let next = texts-next _ _ _ (rw (l .before .count-parts .ensures) at (c .before .before .before .before .before .loop-test .taken)) in
-    let text = rw (c .before .before .before .part .ensures) at (c .before .before .put-text .ensures) in
-    turned (l .loop .inv) _ _ next text (l .before .before .before .before .before .before .pre .0)
+    let f = c .before .before .before .before .before in
+    let l = f .before .before in
+    let start = l .before .before .before .before .before .before .before in
+    let next = texts-next _ _ _ _ (f .before .loop-test .taken) (f .find .ensures .0) in
+    turned (l .loop .inv) _ _ next (c .before .before .put-text .ensures) (start .pre .0)
 
 same-length : tie.Need-same-length Inv-loop μ-loop
 same-length c = search needs
 
 returns : tie.Need-returns Inv-loop μ-loop
-returns c = done (c .before .loop .inv) (texts-end _ _ _ (rw (c .before .before .count-parts .ensures) at (c .loop-test .left)))
+returns c = done (c .before .loop .inv) (texts-end _ _ _ (c .loop-test .left))
 
 pub put-texts-spec : {M : Type 1} → statement M
 put-texts-spec =
@@ -55,11 +65,14 @@ put-texts-spec =
     (tie.spec
     Inv-loop
     μ-loop
-    count-parts-requires
+    part-start-requires
     loop-holds
-    part-requires
+    find-requires
+    sub-put-text
+    part-put-text-start
+    part-put-text-end
     put-text-requires
-    add-i
+    add-a
     loop-less
     loop-again
     same-length

@@ -1,0 +1,45 @@
+// The lines of a result.
+use crate::count::put_labelled;
+use crate::pairs::put_pairs;
+use causes::Refusal;
+use causes::Report;
+ghost use mathlib.Core.Path.{_≡_};
+ghost use Rattle.output.specs.Pour.{poured};
+ghost use Rattle.printed.specs.Lines.{plateLine, refusedLine, reportLine};
+
+// refused,NUMBER,PLACE
+pub fn put_refused(out: &mut [u8], at: usize, r: Refusal) -> usize
+    ensures { λ x. ⌜ (x, now (out .exit)) ≡ poured at (refusedLine (r .cause) (r .place)) (now (out .entry)) ⌝ }
+{
+    let cause = r.cause;
+    let place = r.place;
+    let number = causes::number_of(cause);
+    let end = text::put(out, at, b"refused,");
+    let end = text::put_natural(out, end, number);
+    let end = put_labelled(out, end, b",", place);
+    text::put_byte(out, end, b'\n')
+}
+
+// plate, and the bytes.
+pub fn put_plate(out: &mut [u8], at: usize, plate: &[u8]) -> usize
+    ensures { λ r. ⌜ (r, now (out .exit)) ≡ poured at (plateLine (now (plate .entry))) (now (out .entry)) ⌝ }
+{
+    let end = text::put(out, at, b"plate,");
+    let end = put_pairs(out, end, plate);
+    text::put_byte(out, end, b'\n')
+}
+
+// outcome,N,taken,N,steps,N
+pub fn put_report(out: &mut [u8], at: usize, r: Report) -> usize
+    ensures { λ x. ⌜ (x, now (out .exit)) ≡ poured at (reportLine (r .outcome) (r .taken) (r .steps)) (now (out .entry)) ⌝ }
+{
+    let outcome = r.outcome;
+    let taken = r.taken;
+    let steps = r.steps;
+    let number = causes::outcome_of(outcome);
+    let end = text::put(out, at, b"outcome,");
+    let end = text::put_natural(out, end, number);
+    let end = put_labelled(out, end, b",taken,", taken);
+    let end = put_labelled(out, end, b",steps,", steps);
+    text::put_byte(out, end, b'\n')
+}

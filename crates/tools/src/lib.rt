@@ -1,0 +1,27 @@
+// What the tools share: input files, answers from the arguments, and what is written of a result.
+// A file is named by an argument; `-` is standard input. What cannot be read is told on standard error, in one line, and nothing is
+// printed. No contract can say what is read or written; the work is that of crate printed, on slices.
+mod answers;
+mod files;
+mod results;
+
+pub use answers::first_answers;
+pub use answers::read_answers;
+pub use files::read_file;
+pub use files::read_plate;
+pub use results::refuse;
+pub use results::report;
+pub use results::usage;
+pub use results::write;
+
+// How many bytes of a book are enough. A good book has at most 256 lines of 65 bytes, 16,640. Of a longer one the first bad line starts
+// behind at most 256 good ones, so that it has a byte within the first 16,641: it stands there whole, and is as bad, or it is cut off,
+// and is bad as a last line without LF.
+pub const BOOK: usize = 16641;
+
+// What reading finds: how many bytes or answers stand at the front of the lent space, or that something cannot be read, which has
+// been told.
+pub enum Input {
+    Holds(usize),
+    Unread,
+}

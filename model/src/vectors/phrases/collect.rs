@@ -155,7 +155,14 @@ fn widths(cases: &mut Vec<Case>) {
 /// that differ by 65,536, among the phrases and looked for.
 fn collisions(cases: &mut Vec<Case>) {
     let long = |first: usize, last: u8| [vec![b'~'; first], vec![last; 64 - first]].concat();
-    let texts = [b"cb".to_vec(), b"ac".to_vec(), b"ea".to_vec(), b"g`".to_vec(), [vec![b'}'; 63], vec![b'~']].concat(), long(63, b'}')];
+    let texts = [
+        b"cb".to_vec(),
+        b"ac".to_vec(),
+        b"ea".to_vec(),
+        b"g`".to_vec(),
+        [vec![b'}'; 63], vec![b'~']].concat(),
+        long(63, b'}'),
+    ];
     for left_out in 0..texts.len() {
         let mut book: Vec<_> = texts.to_vec();
         book.remove(left_out);

@@ -3,8 +3,8 @@
 // A guide of more than 16,384 bytes is refused whatever it holds, so that 16,385 bytes of it are enough. A walk meets at most 512
 // statements, so that no more answers are taken, and writes at most 601 bytes for each.
 use causes::Ran;
-use printed::Counted;
 use printed::front;
+use refusal_words::Counted;
 use tools::Input;
 
 // What is printed of the walk.

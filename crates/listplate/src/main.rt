@@ -2,8 +2,8 @@
 // A listing of more than 327,680 bytes is refused whatever it holds, so that 327,681 bytes of it are enough. A plate has at most 2,953
 // bytes, and its line 5,913.
 use causes::Written;
-use printed::Counted;
 use printed::front;
+use refusal_words::Counted;
 use tools::Input;
 
 // What is printed of the listing.

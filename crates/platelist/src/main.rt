@@ -2,8 +2,8 @@
 // A plate of more than 2,953 bytes is refused whatever it holds, so that 2,954 bytes of it are enough. No accepted plate has a listing of
 // more than 327,680 bytes.
 use causes::Written;
-use printed::Counted;
 use printed::front;
+use refusal_words::Counted;
 use tools::Input;
 
 // What is printed of the plate.

@@ -3,8 +3,8 @@
 // A plate of more than 2,953 bytes is refused whatever it holds, so that 2,954 bytes of it are enough. A run meets at most 512
 // instructions, so that no more answers are taken, and writes at most 601 bytes for each.
 use causes::Ran;
-use printed::Counted;
 use printed::front;
+use refusal_words::Counted;
 use tools::Input;
 
 // What is printed of the run.

@@ -1,11 +1,20 @@
 // The lines of a result.
-use crate::count::put_labelled;
 use crate::pairs::put_pairs;
 use causes::Refusal;
 use causes::Report;
 ghost use mathlib.Core.Path.{_≡_};
+ghost use mathlib.Core.List.{_++_};
+ghost use Rattle.text.specs.Number.{decimalℕ};
 ghost use Rattle.output.specs.Pour.{poured};
 ghost use Rattle.printed.specs.Lines.{plateLine, refusedLine, reportLine};
+
+// A number behind its label.
+fn put_labelled(out: &mut [u8], at: usize, label: &[u8], v: usize) -> usize
+    ensures { λ r. ⌜ (r, now (out .exit)) ≡ poured at (now (label .entry) ++ decimalℕ v) (now (out .entry)) ⌝ }
+{
+    let end = text::put(out, at, label);
+    text::put_natural(out, end, v)
+}
 
 // refused,NUMBER,PLACE
 pub fn put_refused(out: &mut [u8], at: usize, r: Refusal) -> usize
@@ -14,8 +23,7 @@ pub fn put_refused(out: &mut [u8], at: usize, r: Refusal) -> usize
     let cause = r.cause;
     let place = r.place;
     let number = causes::number_of(cause);
-    let end = text::put(out, at, b"refused,");
-    let end = text::put_natural(out, end, number);
+    let end = put_labelled(out, at, b"refused,", number as usize);
     let end = put_labelled(out, end, b",", place);
     text::put_byte(out, end, b'\n')
 }
@@ -37,8 +45,7 @@ pub fn put_report(out: &mut [u8], at: usize, r: Report) -> usize
     let taken = r.taken;
     let steps = r.steps;
     let number = causes::outcome_of(outcome);
-    let end = text::put(out, at, b"outcome,");
-    let end = text::put_natural(out, end, number);
+    let end = put_labelled(out, at, b"outcome,", number as usize);
     let end = put_labelled(out, end, b",taken,", taken);
     let end = put_labelled(out, end, b",steps,", steps);
     text::put_byte(out, end, b'\n')

@@ -60,7 +60,7 @@ pub fn put_natural(out: &mut [u8], at: usize, n: usize) -> usize
     ensures { λ r. ⌜ (r, now (out .exit)) ≡ poured at (comma ∷ decimalℕ n) (now (out .entry)) ⌝ }
 {
     let end = text::put_byte(out, at, b',');
-    text::put_natural(out, end, n as u32)
+    text::put_natural(out, end, n)
 }
 
 // OP.

@@ -19,13 +19,13 @@ drop-at-set (x ∷ l) (suc k) a h = drop-at-set l k a (omega arith)
 pub record Behind (v : ℕ) (digits : List ℕ) (left k : ℕ) : Type 0 where
   pub found : decimalℕ v ≡ decimalℕ left ++ drop (suc k) digits
   pub room : left < 10 ^ suc k
-  pub place : k < 10
+  pub place : k < 20
 
-pub behind-all : (v : ℕ) (digits : List ℕ) → length digits ≡ 10 → v < 4294967296 → Behind v digits v 9
+pub behind-all : (v : ℕ) (digits : List ℕ) → length digits ≡ 20 → v < 18446744073709551616 → Behind v digits v 19
 behind-all v digits h l =
-    let most : 10 ^ suc 9 ≡ 10000000000 = refl in
+    let most : 10 ^ suc 19 ≡ 100000000000000000000 = refl in
     record {
-      found = sym (rw (drop-of-length-le digits {i = 10} (omega (arith, h))) (append-nil (decimalℕ v)));
+      found = sym (rw (drop-of-length-le digits {i = 20} (omega (arith, h))) (append-nil (decimalℕ v)));
       room = omega (arith, most);
       place = omega arith;
     }
@@ -35,7 +35,7 @@ pub place-left : (v : ℕ) (digits : List ℕ) (left k : ℕ) → Behind v digit
 place-left v digits left zero b h = let ten : 10 ^ suc 0 ≡ 10 = refl in absurd (omega (arith, b .room, ten))
 place-left v digits left (suc k) b h = omega arith
 
-pub behind-more : (v : ℕ) (digits : List ℕ) (left k : ℕ) → Behind v digits left k → length digits ≡ 10 → 10 ≤ left
+pub behind-more : (v : ℕ) (digits : List ℕ) (left k : ℕ) → Behind v digits left k → length digits ≡ 20 → 10 ≤ left
     → Behind v (set digits k (48 + left % 10)) (left / 10) (k - 1)
 behind-more v digits left zero b h l = absurd (omega (arith, place-left v digits left zero b l))
 behind-more v digits left (suc k) b h l =
@@ -46,7 +46,7 @@ behind-more v digits left (suc k) b h l =
       place = omega (arith, b .place);
     }
 
-pub behind-none : (v : ℕ) (digits : List ℕ) (left k : ℕ) → Behind v digits left k → length digits ≡ 10 → left < 10
+pub behind-none : (v : ℕ) (digits : List ℕ) (left k : ℕ) → Behind v digits left k → length digits ≡ 20 → left < 10
     → drop k (set digits k (48 + left)) ≡ decimalℕ v
 behind-none v digits left k b h l =
     let at = drop-at-set digits k (48 + left) (omega (arith, b .place, h)) in

@@ -38,12 +38,12 @@ fn put_from(out: &mut [u8], at: usize, digits: &[u8], k: usize) -> usize
 }
 
 // A number from 0 on, the highest digit first. The digits are found from the last one on.
-pub fn put_natural(out: &mut [u8], at: usize, v: u32) -> usize
+pub fn put_natural(out: &mut [u8], at: usize, v: usize) -> usize
     ensures { λ r. ⌜ (r, now (out .exit)) ≡ poured at (decimalℕ v) (now (out .entry)) ⌝ }
 {
-    let mut digits = [0u8; 10];
+    let mut digits = [0u8; 20];
     let mut left = v;
-    let mut k = 9;
+    let mut k = 19;
     while 10 <= left {
         digits[k] = b'0' + (left % 10) as u8;
         left /= 10;
@@ -58,8 +58,8 @@ pub fn put_number(out: &mut [u8], at: usize, v: i32) -> usize
     ensures { λ r. ⌜ (r, now (out .exit)) ≡ poured at (decimal v) (now (out .entry)) ⌝ }
 {
     if 0 <= v {
-        return put_natural(out, at, v as u32);
+        return put_natural(out, at, v as usize);
     }
     let end = put_byte(out, at, b'-');
-    put_natural(out, end, (!v) as u32 + 1)
+    put_natural(out, end, (!v) as usize + 1)
 }

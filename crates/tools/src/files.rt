@@ -55,7 +55,7 @@ pub fn read_plate(i: usize, plate: &mut [u8]) -> Input {
     let Input::Holds(n) = read_file(i, &mut text) else {
         return Input::Unread;
     };
-    let found = printed::read_pairs(front(&text, n), plate);
+    let found = hex_pairs::read_pairs(front(&text, n), plate);
     let count = found.count;
     let fault = found.fault;
     if plate.len() <= count {

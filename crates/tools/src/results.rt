@@ -3,8 +3,8 @@ use causes::Refusal;
 use causes::Report;
 use libc::STDERR_FILENO;
 use libc::STDOUT_FILENO;
-use printed::Counted;
 use printed::front;
+use refusal_words::Counted;
 
 // Bytes, to standard output.
 pub fn write(bytes: &[u8]) {
@@ -17,7 +17,7 @@ pub fn refuse(counted: Counted, r: Refusal) {
     let length = printed::put_refused(&mut line, 0, r);
     write(front(&line, length));
     let mut words = [0; 256];
-    let length = printed::put_words(&mut words, 0, counted, r);
+    let length = refusal_words::put_words(&mut words, 0, counted, r);
     io::write_all(STDERR_FILENO, front(&words, length));
 }
 

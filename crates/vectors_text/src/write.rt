@@ -12,7 +12,7 @@ fn line(place: usize, out: &[u8]) {
 // A number from 0 on.
 pub fn natural(s: &[u8], at: usize, out: &mut [u8], place: usize) -> usize {
     vectors::fill(out);
-    let end = text::put_natural(out, place, vectors::number(s, at) as u32);
+    let end = text::put_natural(out, place, vectors::number(s, at));
     line(end, out);
     vectors::past(at, 4)
 }

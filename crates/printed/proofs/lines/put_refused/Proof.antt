@@ -1,4 +1,4 @@
--- `put_refused` meets its contract: the four parts of the line are written one behind the other.
+-- `put_refused` meets its contract: number, place and LF are written one behind the other.
 use native.Mathlib.Omega.{arith}
 use Rattle.output.proofs.Pour.{then}
 use Rattle.printed.specs.Lines.{refusedLine}
@@ -9,20 +9,20 @@ use Rattle.printed.proofs.lines.put_refused.Tie as tie
 number-of-requires : tie.Need-number-of-requires
 number-of-requires c κs = search needs
 
-slice-aggregate-put : tie.Need-slice-aggregate-put
-slice-aggregate-put c = search needs
-
-put-requires : tie.Need-put-requires
-put-requires c κs = search needs
-
-put-natural-requires : tie.Need-put-natural-requires
-put-natural-requires c κs = search needs
-
 slice-aggregate-put-labelled : tie.Need-slice-aggregate-put-labelled
 slice-aggregate-put-labelled c = search needs
 
+cast-put-labelled : tie.Need-cast-put-labelled
+cast-put-labelled c = search needs
+
 put-labelled-requires : tie.Need-put-labelled-requires
 put-labelled-requires c κs = search needs
+
+slice-aggregate-put-labelled-2 : tie.Need-slice-aggregate-put-labelled-2
+slice-aggregate-put-labelled-2 c = search needs
+
+put-labelled-requires-2 : tie.Need-put-labelled-requires-2
+put-labelled-requires-2 c κs = search needs
 
 put-byte-requires : tie.Need-put-byte-requires
 put-byte-requires c κs = search needs
@@ -32,21 +32,20 @@ same-length c = search needs
 
 returns : tie.Need-returns
 unfolding refusedLine
-returns c = let one = then _ _ _ _ _ _ _ (c .before .before .before .before .before .before .before .before .before .before .before .before .before .before .before .put .ensures) (c .before .before .before .before .before .before .before .before .before .before .before .put-natural .ensures) (omega arith) in
-    let two = then _ _ _ _ _ _ _ one (c .before .before .before .before .before .before .put-labelled .ensures) (omega arith) in
+returns c = let two = then _ _ _ _ _ _ _ (c .before .before .before .before .before .before .before .before .before .before .before .put-labelled .ensures) (c .before .before .before .before .before .before .put-labelled2 .ensures) (omega arith) in
     let line = then _ _ _ _ _ _ _ two (c .before .before .put-byte .ensures) (omega arith) in
-    rw (c .before .before .before .before .before .before .before .before .before .before .before .before .before .before .before .before .before .before .number-of .ensures) at line
+    rw (c .before .before .before .before .before .before .before .before .before .before .before .before .before .before .number-of .ensures) at line
 
 pub put-refused-spec : {M : Type 1} → statement M
 put-refused-spec =
     tie.close
     (tie.spec
     number-of-requires
-    slice-aggregate-put
-    put-requires
-    put-natural-requires
     slice-aggregate-put-labelled
+    cast-put-labelled
     put-labelled-requires
+    slice-aggregate-put-labelled-2
+    put-labelled-requires-2
     put-byte-requires
     same-length
     returns)

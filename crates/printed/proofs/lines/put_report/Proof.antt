@@ -1,4 +1,4 @@
--- `put_report` meets its contract: the parts of the line are written one behind the other.
+-- `put_report` meets its contract: the three numbers behind their labels and LF are written one behind the other.
 use native.Mathlib.Omega.{arith}
 use Rattle.output.proofs.Pour.{then}
 use Rattle.printed.specs.Lines.{reportLine}
@@ -9,17 +9,11 @@ use Rattle.printed.proofs.lines.put_report.Tie as tie
 outcome-of-requires : tie.Need-outcome-of-requires
 outcome-of-requires c κs = search needs
 
-slice-aggregate-put : tie.Need-slice-aggregate-put
-slice-aggregate-put c = search needs
-
-put-requires : tie.Need-put-requires
-put-requires c κs = search needs
-
-put-natural-requires : tie.Need-put-natural-requires
-put-natural-requires c κs = search needs
-
 slice-aggregate-put-labelled : tie.Need-slice-aggregate-put-labelled
 slice-aggregate-put-labelled c = search needs
+
+cast-put-labelled : tie.Need-cast-put-labelled
+cast-put-labelled c = search needs
 
 put-labelled-requires : tie.Need-put-labelled-requires
 put-labelled-requires c κs = search needs
@@ -30,6 +24,12 @@ slice-aggregate-put-labelled-2 c = search needs
 put-labelled-requires-2 : tie.Need-put-labelled-requires-2
 put-labelled-requires-2 c κs = search needs
 
+slice-aggregate-put-labelled-3 : tie.Need-slice-aggregate-put-labelled-3
+slice-aggregate-put-labelled-3 c = search needs
+
+put-labelled-requires-3 : tie.Need-put-labelled-requires-3
+put-labelled-requires-3 c κs = search needs
+
 put-byte-requires : tie.Need-put-byte-requires
 put-byte-requires c κs = search needs
 
@@ -38,24 +38,23 @@ same-length c = search needs
 
 returns : tie.Need-returns
 unfolding reportLine
-returns c = let one = then _ _ _ _ _ _ _ (c .before .before .before .before .before .before .before .before .before .before .before .before .before .before .before .before .before .before .before .before .put .ensures) (c .before .before .before .before .before .before .before .before .before .before .before .before .before .before .before .before .put-natural .ensures) (omega arith) in
-    let two = then _ _ _ _ _ _ _ one (c .before .before .before .before .before .before .before .before .before .before .before .put-labelled .ensures) (omega arith) in
-    let three = then _ _ _ _ _ _ _ two (c .before .before .before .before .before .before .put-labelled2 .ensures) (omega arith) in
+returns c = let two = then _ _ _ _ _ _ _ (c .before .before .before .before .before .before .before .before .before .before .before .before .before .before .before .before .put-labelled .ensures) (c .before .before .before .before .before .before .before .before .before .before .before .put-labelled2 .ensures) (omega arith) in
+    let three = then _ _ _ _ _ _ _ two (c .before .before .before .before .before .before .put-labelled3 .ensures) (omega arith) in
     let line = then _ _ _ _ _ _ _ three (c .before .before .put-byte .ensures) (omega arith) in
-    rw (c .before .before .before .before .before .before .before .before .before .before .before .before .before .before .before .before .before .before .before .before .before .before .before .outcome-of .ensures) at line
+    rw (c .before .before .before .before .before .before .before .before .before .before .before .before .before .before .before .before .before .before .before .outcome-of .ensures) at line
 
 pub put-report-spec : {M : Type 1} → statement M
 put-report-spec =
     tie.close
     (tie.spec
     outcome-of-requires
-    slice-aggregate-put
-    put-requires
-    put-natural-requires
     slice-aggregate-put-labelled
+    cast-put-labelled
     put-labelled-requires
     slice-aggregate-put-labelled-2
     put-labelled-requires-2
+    slice-aggregate-put-labelled-3
+    put-labelled-requires-3
     put-byte-requires
     same-length
     returns)

@@ -8,9 +8,6 @@ use Rattle.read_plate.proofs.field.put_natural.Tie as tie
 put-byte-requires : tie.Need-put-byte-requires
 put-byte-requires c κs = search needs
 
-cast-put-natural : tie.Need-cast-put-natural
-cast-put-natural c = search needs
-
 put-natural-requires : tie.Need-put-natural-requires
 put-natural-requires c κs = search needs
 
@@ -23,4 +20,4 @@ returns c = then _ _ _ _ _ _ _ (c .before .before .before .before .before .befor
 pub put-natural-spec : {M : Type 1} → statement M
 put-natural-spec =
     tie.close
-    (tie.spec put-byte-requires cast-put-natural put-natural-requires same-length returns)
+    (tie.spec put-byte-requires put-natural-requires same-length returns)

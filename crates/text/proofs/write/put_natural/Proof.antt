@@ -9,7 +9,7 @@ use Rattle.text.proofs.write.put_natural.Statement.{statement}
 use Rattle.text.proofs.write.put_natural.Tie as tie
 
 abbrev Inv-loop : tie.InvT-loop
-Inv-loop out at v digits₀ left₀ k₀ digits left k = Behind v digits left k × (length digits ≡ 10)
+Inv-loop out at v digits₀ left₀ k₀ digits left k = Behind v digits left k × (length digits ≡ 20)
 
 abbrev μ-loop : tie.MeasureT-loop
 μ-loop out at v digits₀ left₀ k₀ digits left k = left

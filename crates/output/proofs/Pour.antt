@@ -2,12 +2,14 @@
 use Prim.Native.Nat.{ℕ, zero, suc, _+_, _-_, _≤_, _<_, min}
 use native.Mathlib.Omega.{arith}
 use native.Mathlib.Nat.{zero-add, suc-add}
+use native.Mathlib.Numerals.{add-one}
 use mathlib.Core.Path.{_≡_, refl, sym, _∙_, ap}
 use mathlib.Core.List.{List, [], _∷_, _++_}
 use mathlib.Core.Bool.{Bool, true, false}
 use lib.Dec.{leb}
 use borrow.Author.Tests.{leb-true, leb-false}
-use lib.ListN.{length, take, drop, set, length-append}
+use lib.ListN.{length, take, drop, getD, set, length-append}
+use lib.Seq.{length-take-le, take-suc}
 use Rattle.output.specs.Pour.{upTo, pour, poured}
 
 module _ {A : Type 0} where
@@ -47,6 +49,12 @@ module _ {A : Type 0} where
   pour-then zero (y ∷ a) b (x ∷ old) =
       rw (zero-add (suc (length a))) (ap (λ (l : List A). y ∷ l) (rw (zero-add (length a)) at (pour-then zero a b old)))
   pour-then (suc at) a b (x ∷ old) = rw (suc-add at (length a)) (ap (λ (l : List A). x ∷ l) (pour-then at a b old))
+
+  -- one element more of what is written
+  pub pour-more : (at i : ℕ) (new old : List A) (d : A) → i < length new → pour at (take (i + 1) new) old ≡ set (pour at (take i new) old) (at + i) (getD new i d)
+  pour-more at i new old d h =
+      let long : length (take i new) ≡ i = length-take-le i new (omega arith) in
+      rw (add-one, take-suc new i d h, ← pour-then at (take i new) (getD new i d ∷ []) old, pour-one, long)
 
   -- what fits stands at the front, and the rest stays
   pub pour-fits : (new old : List A) → length new ≤ length old → pour 0 new old ≡ new ++ drop (length new) old
@@ -89,6 +97,11 @@ module _ {A : Type 0} where
   none at old h =
       let k : at ≡ upTo (at + 0) = omega arith in
       λ i. (k i, sym (pour-none at old) i)
+
+  -- the place and the buffer, each by itself
+  pub both : (at : ℕ) (new old : List A) (x : ℕ) (last : List A) → x ≡ upTo (at + length new) → last ≡ pour at new old → (x, last) ≡ poured at new old
+  unfolding poured
+  both at new old x last e f = rw (e, f)
 
   -- one element written, where there is room
   pub one : (at : ℕ) (a : A) (old : List A) (x : ℕ) (new : List A) → x ≡ upTo (at + 1) → new ≡ set old at a → (x, new) ≡ poured at (a ∷ []) old

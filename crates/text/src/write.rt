@@ -1,9 +1,9 @@
 // Writing bytes, texts and numbers at a place of a lent buffer, as far as it goes.
 ghost use mathlib.Core.Path.{_≡_};
 ghost use mathlib.Core.List.{[], _∷_};
-ghost use Prim.Native.Nat.{_≤_};
+ghost use Prim.Native.Nat.{_+_, _≤_};
 ghost use lib.ListN.{length, drop};
-ghost use Rattle.output.specs.Pour.{poured};
+ghost use Rattle.output.specs.Pour.{pour, poured};
 ghost use Rattle.text.specs.Number.{decimalℕ, decimal};
 
 // A byte, where there is room: every other writer goes through this one.
@@ -16,8 +16,20 @@ pub fn put_byte(out: &mut [u8], at: usize, b: u8) -> usize
     output::sum(at, 1)
 }
 
-// A text.
-pub fn put(out: &mut [u8], at: usize, text: &[u8]) -> usize
+// A text that has room from a place on.
+fn copy(out: &mut [u8], at: usize, text: &[u8])
+    requires { ⌜ at + length (now text) ≤ length (now out) ⌝ }
+    ensures { λ _. ⌜ now (out .exit) ≡ pour at (now (text .entry)) (now (out .entry)) ⌝ }
+{
+    let mut i = 0;
+    while i < text.len() {
+        out[at + i] = text[i];
+        i += 1;
+    }
+}
+
+// A text, byte by byte, as far as the buffer goes.
+fn put_bytes(out: &mut [u8], at: usize, text: &[u8]) -> usize
     ensures { λ r. ⌜ (r, now (out .exit)) ≡ poured at (now (text .entry)) (now (out .entry)) ⌝ }
 {
     let mut end = at;
@@ -27,6 +39,21 @@ pub fn put(out: &mut [u8], at: usize, text: &[u8]) -> usize
         i += 1;
     }
     end
+}
+
+// A text: copied where all of it has room, and counted where none of it has.
+pub fn put(out: &mut [u8], at: usize, text: &[u8]) -> usize
+    ensures { λ r. ⌜ (r, now (out .exit)) ≡ poured at (now (text .entry)) (now (out .entry)) ⌝ }
+{
+    let end = output::sum(at, text.len());
+    if end <= out.len() {
+        copy(out, at, text);
+        return end;
+    }
+    if out.len() <= at {
+        return end;
+    }
+    put_bytes(out, at, text)
 }
 
 // The last digits of a number, from the place k of `digits` on.

@@ -1,60 +1,43 @@
--- `put` meets its contract: the first i bytes are written.
-use Prim.Native.Nat.{ℕ, _≤_, _-_}
-use native.Mathlib.Omega.{arith}
-use native.Mathlib.Numerals.{add-one}
-use mathlib.Core.Path.{_≡_}
-use lib.ListN.{length, take}
-use lib.Seq.{take-suc, take-all}
+-- `put` meets its contract: all of the text is stored, or none of it, or as much as has room.
+use mathlib.Core.Path.{sym}
+use Rattle.output.proofs.Pour.{both, pour-past}
 use borrow.Author.Needs.{needs}
-use Rattle.output.specs.Pour.{poured}
-use Rattle.output.proofs.Pour.{none, then, kept}
 use Rattle.text.proofs.write.put.Statement.{statement}
 use Rattle.text.proofs.write.put.Tie as tie
 
-abbrev Inv-loop : tie.InvT-loop
-Inv-loop out₀ at text end₀ i₀ out end i = ((end, out) ≡ poured at (take i text) out₀) × (i ≤ length text)
+sum-requires : tie.Need-sum-requires
+sum-requires c κs = search needs
 
-abbrev μ-loop : tie.MeasureT-loop
-μ-loop out₀ at text end₀ i₀ out end i = length text - i
+copy-requires : tie.Need-copy-requires
+copy-requires c κs = search needs
 
-loop-holds : tie.Need-loop-holds Inv-loop μ-loop
-loop-holds c = (none _ _ (omega arith), search needs)
+same-length : tie.Need-same-length
+same-length c = search needs
 
-shared-slice-read-put-byte : tie.Need-shared-slice-read-put-byte Inv-loop μ-loop
-shared-slice-read-put-byte c = search needs
+returns : tie.Need-returns
+returns c = both _ _ _ _ _ (c .before .before .before .before .before .sum .ensures) (c .before .before .copy .ensures)
 
-put-byte-requires : tie.Need-put-byte-requires Inv-loop μ-loop
-put-byte-requires c κs = search needs
+returns-2 : tie.Need-returns-2
+returns-2 c = both _ _ _ _ _ (c .before .before .sum .ensures) (sym (pour-past _ _ _ (c .if2 .taken)))
 
-add-i : tie.Need-add-i Inv-loop μ-loop
-add-i c = search needs
+put-bytes-requires : tie.Need-put-bytes-requires
+put-bytes-requires c κs = search needs
 
-loop-less : tie.Need-loop-less Inv-loop μ-loop
-loop-less c = search needs
+same-length-2 : tie.Need-same-length-2
+same-length-2 c = search needs
 
-loop-again : tie.Need-loop-again Inv-loop μ-loop
-loop-again c =
-    let b = c .before .before .before .before .before in
-    let e = then _ _ _ _ _ _ _ (b .before .loop .inv .0) (c .before .before .put-byte .ensures) (omega arith) in
-    (rw (add-one, take-suc {A = ℕ} _ _ 0 (b .loop-test .taken)) e, search needs)
-
-same-length : tie.Need-same-length Inv-loop μ-loop
-same-length c = kept _ _ _ _ _ (c .before .loop .inv .0)
-
-returns : tie.Need-returns Inv-loop μ-loop
-returns c = rw (take-all _ _ (c .loop-test .left)) at (c .before .loop .inv .0)
+returns-3 : tie.Need-returns-3
+returns-3 c = search needs
 
 pub put-spec : {M : Type 1} → statement M
 put-spec =
     tie.close
     (tie.spec
-    Inv-loop
-    μ-loop
-    loop-holds
-    shared-slice-read-put-byte
-    put-byte-requires
-    add-i
-    loop-less
-    loop-again
+    sum-requires
+    copy-requires
     same-length
-    returns)
+    returns
+    returns-2
+    put-bytes-requires
+    same-length-2
+    returns-3)

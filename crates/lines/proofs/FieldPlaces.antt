@@ -93,10 +93,17 @@ module _ (s : List ℕ) (a : ℕ) where
       go : Some (split comma (drop a s)) → bareLine Guide line (partsFrom comma a s) ≡ faulty Kind
       go (q, qs, f) = rw (parts-some comma s a h, f)
 
--- ---- the second and the third field
+-- ---- the second, the third and the fourth field
 
 pub second-field : (fs gs : List (List ℕ)) {p : List ℕ} → p ≡ getD gs 0 [] → gs ≡ drop 1 fs → p ≡ getD fs 1 []
 second-field fs gs e f = e ∙ ap (λ l. getD l 0 []) f ∙ sym (at-front fs 1)
 
 pub third-field : (fs gs hs : List (List ℕ)) {p : List ℕ} → p ≡ getD hs 0 [] → hs ≡ drop 1 gs → gs ≡ drop 1 fs → p ≡ getD fs 2 []
 third-field fs gs hs e f g = e ∙ ap (λ l. getD l 0 []) (f ∙ ap (drop 1) g ∙ drop-drop 1 1 fs) ∙ sym (at-front fs 2)
+
+pub fourth-field : (fs gs hs is : List (List ℕ)) {p : List ℕ} → p ≡ getD is 0 [] → is ≡ drop 1 hs → hs ≡ drop 1 gs → gs ≡ drop 1 fs
+    → p ≡ getD fs 3 []
+fourth-field fs gs hs is e d f g =
+    e
+    ∙ ap (λ l. getD l 0 []) (d ∙ ap (drop 1) (f ∙ ap (drop 1) g ∙ drop-drop 1 1 fs) ∙ drop-drop 1 2 fs)
+    ∙ sym (at-front fs 3)

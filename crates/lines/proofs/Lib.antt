@@ -13,3 +13,5 @@ pub mod Room
 pub mod OwnFirst
 pub mod LinesPassed
 pub mod Answers
+pub mod CleanLines
+pub mod CleanTexts

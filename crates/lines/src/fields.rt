@@ -24,7 +24,7 @@ pub enum TestRead {
 }
 
 // The first field; no bytes where there is none.
-fn field_at(s: &[u8], a: usize) -> &[u8]
+pub fn field_at(s: &[u8], a: usize) -> &[u8]
     ensures { λ r. ⌜ now r ≡ getD (partsFrom comma a (now (s .entry))) 0 [] ⌝ }
 {
     if s.len() < a {
@@ -35,7 +35,7 @@ fn field_at(s: &[u8], a: usize) -> &[u8]
 }
 
 // Where the fields behind the first begin.
-fn behind(s: &[u8], a: usize) -> usize
+pub fn behind(s: &[u8], a: usize) -> usize
     ensures { λ r. ⌜ partsFrom comma r (now (s .entry)) ≡ drop 1 (partsFrom comma a (now (s .entry))) ⌝ }
 {
     if s.len() < a {

@@ -1,0 +1,117 @@
+// One line by itself that is known to have none of the causes 3, 4 and 5: its bytes and texts are not judged again.
+ghost use mathlib.Core.Path.{_≡_};
+ghost use mathlib.Core.Bool.{true};
+ghost use Rattle.text.specs.Parts.{comma, partsFrom};
+ghost use Rattle.lines.specs.Line as line;
+ghost use Rattle.lines.specs.Words.{lineOfKind};
+ghost use Rattle.lines.specs.Answers.{headOf};
+ghost use Rattle.lines.specs.Clean.{isClean};
+use crate::Form;
+use crate::Head;
+use crate::fields::TestRead;
+use crate::fields::behind;
+use crate::fields::field_at;
+use crate::fields::read_test;
+use crate::words::Kind;
+use crate::words::kind_of;
+use causes::Cause;
+use text::Natural;
+
+// The head of such a line.
+pub fn accepted_line(form: Form, s: &[u8]) -> Head
+    requires { ⌜ isClean (line.lineOf form (now s)) ≡ true ⌝ }
+    ensures { λ r. ⌜ r ≡ headOf (line.lineOf form (now (s .entry))) ⌝ }
+{
+    let e = text::find(s, 0, b',');
+    accepted_fields(form, kind_of(&s[..e]), s, e + 1)
+}
+
+// A line of this kind, whose fields behind the kind begin at a.
+fn accepted_fields(form: Form, kind: Kind, s: &[u8], a: usize) -> Head
+    requires { ⌜ isClean (lineOfKind form kind (partsFrom comma a (now s))) ≡ true ⌝ }
+    ensures { λ r. ⌜ r ≡ headOf (lineOfKind form kind (partsFrom comma a (now (s .entry)))) ⌝ }
+{
+    match kind {
+        Kind::Phrase => Head::Phrase,
+        Kind::Input => accepted_input(s, a),
+        Kind::Inputs => accepted_inputs(s, a),
+        Kind::Print => Head::Print,
+        Kind::Printex => Head::Printex,
+        Kind::If => accepted_if(form, s, a),
+        Kind::Else => Head::Else,
+        Kind::Fi => Head::Fi,
+        Kind::Goto => accepted_goto(form, s, a),
+        Kind::Unknown => Head::Faulty { cause: Cause::Kind },
+    }
+}
+
+// `input,R,TEXT`.
+fn accepted_input(s: &[u8], a: usize) -> Head
+    requires { ⌜ isClean (line.inputLine (partsFrom comma a (now s))) ≡ true ⌝ }
+    ensures { λ r. ⌜ r ≡ headOf (line.inputLine (partsFrom comma a (now (s .entry)))) ⌝ }
+{
+    let Natural::Is(register) = text::read_natural(field_at(s, a), 31) else {
+        return Head::Faulty {
+            cause: Cause::Value,
+        };
+    };
+    Head::Input {
+        register: register as usize,
+    }
+}
+
+// `inputs,R,TEXT,OPTION,..`.
+fn accepted_inputs(s: &[u8], a: usize) -> Head
+    requires { ⌜ isClean (line.inputsLine (partsFrom comma a (now s))) ≡ true ⌝ }
+    ensures { λ r. ⌜ r ≡ headOf (line.inputsLine (partsFrom comma a (now (s .entry)))) ⌝ }
+{
+    let Natural::Is(register) = text::read_natural(field_at(s, a), 31) else {
+        return Head::Faulty {
+            cause: Cause::Value,
+        };
+    };
+    Head::Inputs {
+        register: register as usize,
+        options: text::count_parts(&s[a..], b',') - 2,
+    }
+}
+
+// A guide's `if,R,OP,C`; a listing's `if,R,OP,C,SKIP`.
+fn accepted_if(form: Form, s: &[u8], a: usize) -> Head
+    requires { ⌜ isClean (line.ifFields form (partsFrom comma a (now s))) ≡ true ⌝ }
+    ensures { λ r. ⌜ r ≡ headOf (line.ifFields form (partsFrom comma a (now (s .entry)))) ⌝ }
+{
+    let TestRead::Is(test) = read_test(s, a) else {
+        return Head::Faulty {
+            cause: Cause::Value,
+        };
+    };
+    if let Form::Guide = form {
+        return Head::If { test };
+    }
+    let c = behind(s, behind(s, a));
+    let Natural::Is(skip) = text::read_natural(field_at(s, behind(s, c)), 511) else {
+        return Head::Faulty {
+            cause: Cause::Value,
+        };
+    };
+    Head::IfSkip {
+        test,
+        skip: skip as usize,
+    }
+}
+
+// A listing's `goto,SKIP`.
+fn accepted_goto(form: Form, s: &[u8], a: usize) -> Head
+    requires { ⌜ isClean (line.gotoFields form (partsFrom comma a (now s))) ≡ true ⌝ }
+    ensures { λ r. ⌜ r ≡ headOf (line.gotoFields form (partsFrom comma a (now (s .entry)))) ⌝ }
+{
+    let Natural::Is(skip) = text::read_natural(field_at(s, a), 511) else {
+        return Head::Faulty {
+            cause: Cause::Value,
+        };
+    };
+    Head::Goto {
+        skip: skip as usize,
+    }
+}

@@ -36,29 +36,31 @@ cause-back : (o : Option Cause) → o ≡ causeIn (faultAnswer o)
 cause-back none = refl
 cause-back (some c) = refl
 
--- m lines of the text, before the place a, have no cause, and s is held of them
-pub record Passed (form : Form) (book : List Text) (text : List ℕ) (m a : ℕ) (s : Held) : Type 0 where
+-- m lines of the text, before the place a, have no cause, and s and the array os are held of them
+pub record Passed (form : Form) (book : List Text) (text : List ℕ) (m a : ℕ) (s : Held) (os : List ℕ) : Type 0 where
   pub seen : Seen
-  pub holds : Holds seen s
-  pub sound : Sound s
+  pub holds : Holds seen s os
+  pub sound : Sound s os
   pub front : Front text m seen
   pub place : drop m (split LF text) ≡ split LF (drop a text)
   pub few : m ≤ a
   pub rest : checkFrom book 1 nothingSeen (linesOf form text) ≡ checkFrom book (m + 1) seen (linesIn form (split LF (drop a text)))
 
 module _ (form : Form) (book : List Text) (text : List ℕ) where
-  pub passed-none : (s : Held) → Holds nothingSeen s → Sound s → Passed form book text 0 0 s
-  passed-none s k d = record {
+  pub passed-none : (os : List ℕ) → length os ≡ 32
+      → Passed form book text 0 0 (record { own = 0; instructions = 0; depth = 0 }) os
+  unfolding openIfs
+  passed-none os size = record {
     seen = nothingSeen;
-    holds = k;
-    sound = d;
+    holds = record { own = refl; rest = refl };
+    sound = record { depth = omega arith; size = size };
     front = front-none text;
     place = refl;
     few = omega arith;
     rest = refl;
   }
 
-module _ {form : Form} {book : List Text} {text : List ℕ} {m a : ℕ} {s : Held} (g : Passed form book text m a s) where
+module _ {form : Form} {book : List Text} {text : List ℕ} {m a : ℕ} {s : Held} {os : List ℕ} (g : Passed form book text m a s os) where
   -- the own phrases that are held by their number
   own-is : g .seen .own ≡ ownTexts (s .own) text
   own-is = g .front .own ∙ ap (λ k. ownTexts k text) (g .holds .own)
@@ -67,7 +69,7 @@ module _ {form : Form} {book : List Text} {text : List ℕ} {m a : ℕ} {s : Hel
   own-count = ap length (sym own-is) ∙ g .holds .own
 
   pub passed-end : length text ≤ a
-      → checkFrom book 1 nothingSeen (linesOf form text) ≡ atEnd (openIfs (s .depth) (s .opens)) (seenOf (g .seen .own) s)
+      → checkFrom book 1 nothingSeen (linesOf form text) ≡ atEnd (openIfs (s .depth) os) (seenOf (g .seen .own) s os)
   unfolding checkFrom linesIn split
   passed-end h = g .rest ∙ rw (drop-of-length-le text h) (ap (λ t. atEnd (t .ifs) t) (sym (g .holds .rest)))
 
@@ -88,10 +90,10 @@ module _ {form : Form} {book : List Text} {text : List ℕ} {m a : ℕ} {s : Hel
       first = part-first LF text a e k (omega arith)
 
       -- the code's cause is the line's
-      module _ {r : Fault} (c : r ≡ faultAnswer (causeOf book (seenWith text s) (lineWith (phraseText here) d))) where
+      module _ {r : Fault} (c : r ≡ faultAnswer (causeOf book (seenWith text s os) (lineWith (phraseText here) d))) where
         by-head : causeOf book (g .seen) (lineWith (phraseText here) d) ≡ causeIn r
         by-head =
-            let same : seenWith text s ≡ g .seen = ap (λ own. seenOf own s) (sym own-is) ∙ g .holds .rest in
+            let same : seenWith text s os ≡ g .seen = ap (λ own. seenOf own s os) (sym own-is) ∙ g .holds .rest in
             cause-back _ ∙ ap causeIn (ap (λ t. faultAnswer (causeOf book t (lineWith (phraseText here) d))) (sym same) ∙ sym c)
 
         line-cause : causeOf book (g .seen) (lineOf form here) ≡ causeIn r
@@ -107,7 +109,7 @@ module _ {form : Form} {book : List Text} {text : List ℕ} {m a : ℕ} {s : Hel
             g .rest ∙ rw (first, split-some LF (drop (e + 1) text) .2, b, checkFrom)
 
         module _ (i : r ≡ Absent) where
-          pub passing : Passing d s
+          pub passing : Passing d s os
           passing = record {
             book = book;
             own = g .seen .own;
@@ -125,14 +127,15 @@ module _ {form : Form} {book : List Text} {text : List ℕ} {m a : ℕ} {s : Hel
               line-alike form here .seen (m + 1) (g .seen)
               ∙ ap (λ d. next (m + 1) (lineWith (phraseText here) d) (g .seen)) (sym z)
 
-          pub line-passed : (q : Held) → ((x : Text) → Advanced (next (m + 1) (lineWith x d)) s q) → Passed form book text (m + 1) (e + 1) q
+          pub line-passed : (q : Held) (qs : List ℕ) → ((x : Text) → Advanced (next (m + 1) (lineWith x d)) s os q qs)
+              → Passed form book text (m + 1) (e + 1) q qs
           unfolding checkFrom linesIn
-          line-passed q w =
+          line-passed q qs w =
               let b : causeOf book (g .seen) (lineOf form here) ≡ none = line-cause ∙ ap causeIn i in
               let v = w (phraseText here) in
               record {
                 seen = after (g .seen);
-                holds = subst (λ t. Holds (after t) q) (g .holds .rest) (v .holds (g .seen .own) (g .holds .own));
+                holds = subst (λ t. Holds (after t) q qs) (g .holds .rest) (v .holds (g .seen .own) (g .holds .own));
                 sound = v .sound;
                 front = rw add-one (front-next text m (g .seen) (g .front) book here _ (g .place ∙ first) d (by-head ∙ ap causeIn i));
                 place = sym (drop-drop 1 m (split LF text)) ∙ ap (drop 1) (g .place ∙ first);

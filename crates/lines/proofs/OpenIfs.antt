@@ -1,15 +1,15 @@
 -- The open ifs that are held in an array: none, the innermost, one more, and the innermost changed.
-use Prim.Native.Nat.{ℕ, zero, suc, _-_, _<_, _≤_}
+use Prim.Native.Nat.{ℕ, zero, suc, _+_, _-_, _<_, _≤_}
 use native.Mathlib.Omega.{arith}
 use native.Mathlib.Numerals.{sub-one}
 use mathlib.Core.Path.{_≡_, refl, ap}
 use mathlib.Core.List.{List, [], _∷_}
-use lib.ListN.{length, set, getD}
+use mathlib.Core.Bool.{true, false}
+use lib.ListN.{length, set, getD, length-set}
 use lib.Seq.{getD-set-same, getD-set-other}
-use Rattle.lines.specs.declared.seen.Open.{Open as HeldOpen}
-use Rattle.lines.specs.Held.{noOpen, openOf, openIfs}
+use Rattle.lines.specs.Held.{openAt, openIfs}
 
-module _ (os : List HeldOpen) where
+module _ (os : List ℕ) where
   pub depth-is : (d : ℕ) → length (openIfs d os) ≡ d
   unfolding openIfs
   depth-is zero = refl
@@ -19,21 +19,47 @@ module _ (os : List HeldOpen) where
   unfolding openIfs
   none-open d e = rw e
 
-  pub innermost : (d : ℕ) → (d ≡ 0 → ⊥) → openIfs d os ≡ openOf (getD os (d - 1) noOpen) ∷ openIfs (d - 1) os
+  pub innermost : (d : ℕ) → (d ≡ 0 → ⊥) → openIfs d os ≡ openAt os (d - 1) ∷ openIfs (d - 1) os
   unfolding openIfs
   innermost zero h = absurd (h refl)
   innermost (suc d) h = rw sub-one
 
   -- a store behind those that are open
-  stored-behind : (d e : ℕ) (o : HeldOpen) → d ≤ e → openIfs d (set os e o) ≡ openIfs d os
+  stored-line : (d e v : ℕ) → d ≤ e → e < 16 → openIfs d (set os e v) ≡ openIfs d os
   unfolding openIfs
-  stored-behind zero e o h = refl
-  stored-behind (suc d) e o h = rw (getD-set-other os e d o noOpen (λ k. omega arith), stored-behind d e o (omega arith))
+  stored-line zero e v h k = refl
+  stored-line (suc d) e v h k =
+      rw (getD-set-other os e d v 0 (λ n. omega arith), getD-set-other os e (d + 16) v 0 (λ n. omega arith), stored-line d e v (omega arith) k)
 
-  pub one-more-open : (d : ℕ) (o : HeldOpen) → d < length os → openIfs (suc d) (set os d o) ≡ openOf o ∷ openIfs d os
+  stored-turn : (d e v : ℕ) → d ≤ e → d ≤ 16 → openIfs d (set os (e + 16) v) ≡ openIfs d os
   unfolding openIfs
-  one-more-open d o h = rw (getD-set-same os d o noOpen h, stored-behind d d o (omega arith))
+  stored-turn zero e v h k = refl
+  stored-turn (suc d) e v h k =
+      rw (getD-set-other os (e + 16) d v 0 (λ n. omega arith), getD-set-other os (e + 16) (d + 16) v 0 (λ n. omega arith), stored-turn d e v (omega arith) (omega arith))
 
-  pub innermost-stored : (d : ℕ) (o : HeldOpen) → 0 < d → d ≤ length os → openIfs d (set os (d - 1) o) ≡ openOf o ∷ openIfs (d - 1) os
-  innermost-stored zero o h k = absurd (omega arith)
-  innermost-stored (suc d) o h k = rw sub-one (one-more-open d o (omega arith))
+module _ (os : List ℕ) (size : length os ≡ 32) where
+  pub one-more-open : (d n : ℕ) → d < 16
+      → openIfs (suc d) (set (set os d n) (d + 16) 0) ≡ record { line = n; turned = false } ∷ openIfs d os
+  unfolding openIfs
+  one-more-open d n h =
+      let k : d + 16 < length (set os d n) = rw length-set (omega arith) in
+      rw (
+        getD-set-same (set os d n) (d + 16) 0 0 k,
+        getD-set-other (set os d n) (d + 16) d 0 0 (λ e. omega arith),
+        getD-set-same os d n 0 (omega arith),
+        stored-turn (set os d n) d d 0 (omega arith) (omega arith),
+        stored-line os d d n (omega arith) h,
+      )
+
+  pub innermost-turned : (d : ℕ) → 0 < d → d ≤ 16
+      → openIfs d (set os (d - 1 + 16) 1) ≡ record { line = getD os (d - 1) 0; turned = true } ∷ openIfs (d - 1) os
+  unfolding openIfs
+  innermost-turned zero h k = absurd (omega arith)
+  innermost-turned (suc d) h k =
+      let n : suc d - 1 ≡ d = omega arith in
+      rw (
+        n,
+        getD-set-same os (d + 16) 1 0 (omega arith),
+        getD-set-other os (d + 16) d 1 0 (λ e. omega arith),
+        stored-turn os d d 1 (omega arith) (omega arith),
+      )

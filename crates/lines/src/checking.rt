@@ -15,7 +15,6 @@ use crate::fault::cause_of;
 use crate::line::read_line;
 use crate::seen::Seen;
 use crate::seen::advance;
-use crate::seen::nothing_seen;
 use causes::Cause;
 use causes::Refusal;
 
@@ -48,7 +47,12 @@ fn check_lines(form: Form, index: &[u32], book: &[u8], text: &[u8]) -> Checked
     requires { ⌜ Indexed (now index) (now book) ⌝ }
     ensures { λ r. ⌜ r ≡ checkedAnswer (checkFrom (bookTexts (now (book .entry))) 1 nothingSeen (linesOf form (now (text .entry)))) ⌝ }
 {
-    let mut s = nothing_seen();
+    let mut opens = [0; 32];
+    let mut s = Seen {
+        own: 0,
+        instructions: 0,
+        depth: 0,
+    };
     let mut n = 0;
     let mut a = 0;
     while a < text.len() {
@@ -61,23 +65,23 @@ fn check_lines(form: Form, index: &[u32], book: &[u8], text: &[u8]) -> Checked
         }
         let line = &text[a..e];
         let head = read_line(form, line);
-        if let Fault::Is(cause) = cause_of(index, book, text, line, head, s) {
+        if let Fault::Is(cause) = cause_of(index, book, text, line, head, s, &opens) {
             return Checked::Refused(Refusal {
                 cause,
                 place: n + 1,
             });
         }
-        s = advance(n + 1, head, s);
+        s = advance(n + 1, head, s, &mut opens);
         a = e + 1;
         n += 1;
     }
-    at_end(s)
+    at_end(s, &opens)
 }
 
 // Behind the last line: 7, at the line of the innermost if, where one is open.
-fn at_end(s: Seen) -> Checked
-    requires { ⌜ Sound s ⌝ }
-    ensures { λ r. ⌜ ((own : List Text) → length own ≡ s .own → r ≡ checkedAnswer (atEnd (openIfs (s .depth) (s .opens)) (seenOf own s))) ⌝ }
+fn at_end(s: Seen, opens: &[usize; 32]) -> Checked
+    requires { ⌜ Sound s (now opens) ⌝ }
+    ensures { λ r. ⌜ ((own : List Text) → length own ≡ s .own → r ≡ checkedAnswer (atEnd (openIfs (s .depth) (now (opens .entry))) (seenOf own s (now (opens .entry))))) ⌝ }
 {
     let depth = s.depth;
     if depth == 0 {
@@ -86,9 +90,8 @@ fn at_end(s: Seen) -> Checked
             instructions: s.instructions,
         };
     }
-    let open = s.opens[depth - 1];
     Checked::Refused(Refusal {
         cause: Cause::Nesting,
-        place: open.line,
+        place: opens[depth - 1],
     })
 }

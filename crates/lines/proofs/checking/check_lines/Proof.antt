@@ -1,7 +1,7 @@
--- `check_lines` meets its contract: the n lines before a have no cause, and s is held of them.
+-- `check_lines` meets its contract: the n lines before a have no cause, and s and the array are held of them.
 use Prim.Native.Nat.{_-_}
+use mathlib.Core.Path.{refl, sym, ap, _∙_}
 use native.Mathlib.Omega.{arith}
-use mathlib.Core.Path.{sym, ap, _∙_}
 use lib.ListN.{length}
 use borrow.Author.Needs.{needs}
 use Rattle.phrases.specs.Lookup.{bookTexts}
@@ -11,27 +11,22 @@ use Rattle.lines.proofs.checking.check_lines.Statement.{statement}
 use Rattle.lines.proofs.checking.check_lines.Tie as tie
 
 abbrev Inv-loop : tie.InvT-loop
-Inv-loop form index book text s₀ n₀ a₀ s n a = Passed form (bookTexts book) text n a s
+Inv-loop form index book text opens₀ s₀ n₀ a₀ opens s n a = Passed form (bookTexts book) text n a s opens
 
 abbrev μ-loop : tie.MeasureT-loop
-μ-loop form index book text s₀ n₀ a₀ s n a = length text - a
-
-nothing-seen-requires : tie.Need-nothing-seen-requires Inv-loop μ-loop
-nothing-seen-requires c κs = search needs
+μ-loop form index book text opens₀ s₀ n₀ a₀ opens s n a = length text - a
 
 loop-holds : tie.Need-loop-holds Inv-loop μ-loop
-loop-holds c = passed-none _ _ _ _ (c .nothing-seen .ensures .0) (c .nothing-seen .ensures .1)
+loop-holds c = passed-none _ _ _ _ refl
 
 find-requires : tie.Need-find-requires Inv-loop μ-loop
 find-requires c κs = search needs
 
-add-t15 : tie.Need-add-t15 Inv-loop μ-loop
-add-t15 c = search needs
+add-t16 : tie.Need-add-t16 Inv-loop μ-loop
+add-t16 c = search needs
 
 returns : tie.Need-returns Inv-loop μ-loop
-returns c =
-    let b = c .before .before in
-    sym (ap checkedAnswer (unended (b .before .loop .inv) (c .before .find .ensures .0) (b .loop-test .taken) (c .if1 .taken)))
+returns c = sym (ap checkedAnswer (unended (c .before .before .before .loop .inv) (c .before .find .ensures .0) (c .before .before .loop-test .taken) (c .if1 .taken)))
 
 sub-line : tie.Need-sub-line Inv-loop μ-loop
 sub-line c = search needs
@@ -46,24 +41,18 @@ read-line-requires : tie.Need-read-line-requires Inv-loop μ-loop
 read-line-requires c κs = search needs
 
 cause-of-requires : tie.Need-cause-of-requires Inv-loop μ-loop
-cause-of-requires c κs =
-    let l = c .before .before .before .before .before in
-    let g = l .loop .inv in
-    (l .before .before .before .before .before .pre, own-count g, g .sound)
+cause-of-requires c κs = let g = c .before .before .before .before .before .before .loop .inv in
+    (c .before .before .before .before .before .before .before .before .before .before .pre, own-count g, g .sound)
 
 enum-known-cause : tie.Need-enum-known-cause Inv-loop μ-loop
 enum-known-cause c = search needs
 
-add-t20 : tie.Need-add-t20 Inv-loop μ-loop
-add-t20 c = search needs
+add-t22 : tie.Need-add-t22 Inv-loop μ-loop
+add-t22 c = search needs
 
 returns-2 : tie.Need-returns-2 Inv-loop μ-loop
-returns-2 c =
-    let j = c .before .before .before in
-    let b = j .before .before .before in
-    let g = b .before .before .before .loop .inv in
-    let f = b .before .find .ensures in
-    let e = line-refused g (f .0) (f .1) (b .if1 .left) (j .before .read-line .ensures) (j .cause-of .ensures) (c .before .cause .given .1) in
+returns-2 c = let f = c .before .before .before .before .before .before .before .before .find .ensures in
+    let e = line-refused (c .before .before .before .before .before .before .before .before .before .before .loop .inv) (f .0) (f .1) (c .before .before .before .before .before .before .before .if1 .left) (c .before .before .before .before .before .read-line .ensures) (c .before .before .before .cause-of .ensures) (c .before .cause .given .1) in
     sym (ap checkedAnswer e)
 
 enum-told : tie.Need-enum-told Inv-loop μ-loop
@@ -73,43 +62,29 @@ add-advance : tie.Need-add-advance Inv-loop μ-loop
 add-advance c = search needs
 
 advance-requires : tie.Need-advance-requires Inv-loop μ-loop
-advance-requires c κs =
-    let j = c .before .before in
-    let b = j .before .before .before in
-    let g = b .before .before .before .loop .inv in
-    let f = b .before .find .ensures in
-    (passing g (f .0) (f .1) (b .if1 .left) (j .before .read-line .ensures) (j .cause-of .ensures) (c .enum-told .given .1), g .sound)
+advance-requires c κs = let f = c .before .before .before .before .before .before .before .before .find .ensures in
+    let g = c .before .before .before .before .before .before .before .before .before .before .loop .inv in
+    (passing g (f .0) (f .1) (c .before .before .before .before .before .before .before .if1 .left) (c .before .before .before .before .before .read-line .ensures) (c .before .before .before .cause-of .ensures) (c .before .enum-told .given .1), g .sound)
 
 add-a : tie.Need-add-a Inv-loop μ-loop
-add-a c =
-    let b = c .before .before .before .before .before .before in
-    let s = b .before .before .before .before .before .before .before .before in
-    omega (arith, b .if1 .left, b .before .find .ensures, s .good)
+add-a c = omega (arith, c .before .before .before .before .before .before .before .before .if1 .left, c .before .before .before .before .before .before .before .before .before .find .ensures, c .before .before .before .before .before .before .before .before .before .before .before .before .before .before .before .good)
 
 add-n : tie.Need-add-n Inv-loop μ-loop
-add-n c =
-    let b = c .before .before .before .before .before .before in
-    let l = b .before .before .before in
-    omega (arith, b .before .before .loop-test .taken, l .loop .inv .few, l .before .before .before .before .before .good)
+add-n c = omega (arith, c .before .before .before .before .before .before .before .before .before .before .loop-test .taken, c .before .before .before .before .before .before .before .before .before .before .before .loop .inv .few, c .before .before .before .before .before .before .before .before .before .before .before .before .before .before .before .good)
 
 loop-less : tie.Need-loop-less Inv-loop μ-loop
 loop-less c = search needs
 
 loop-again : tie.Need-loop-again Inv-loop μ-loop
-loop-again c =
-    let j = c .before .before .before in
-    let b = j .before .before .before in
-    let g = b .before .before .before .loop .inv in
-    let f = b .before .find .ensures in
-    line-passed g (f .0) (f .1) (b .if1 .left) (j .before .read-line .ensures) (j .cause-of .ensures) (c .before .enum-told .given .1) _ (c .advance .ensures)
+loop-again c = let f = c .before .before .before .before .before .before .before .before .before .find .ensures in
+    line-passed (c .before .before .before .before .before .before .before .before .before .before .before .loop .inv) (f .0) (f .1) (c .before .before .before .before .before .before .before .before .if1 .left) (c .before .before .before .before .before .before .read-line .ensures) (c .before .before .before .before .cause-of .ensures) (c .before .before .enum-told .given .1) _ _ (c .advance .ensures)
 
 at-end-requires : tie.Need-at-end-requires Inv-loop μ-loop
-at-end-requires c κs = search needs
+at-end-requires c κs = c .before .before .loop .inv .sound
 
 returns-3 : tie.Need-returns-3 Inv-loop μ-loop
-returns-3 c =
-    let g = c .before .before .loop .inv in
-    c .at-end .ensures _ (g .holds .own) ∙ sym (ap checkedAnswer (passed-end g (c .before .loop-test .left)))
+returns-3 c = let g = c .before .before .before .loop .inv in
+    c .at-end .ensures _ (g .holds .own) ∙ sym (ap checkedAnswer (passed-end g (c .before .before .loop-test .left)))
 
 pub check-lines-spec : {M : Type 1} → statement M
 check-lines-spec =
@@ -117,10 +92,9 @@ check-lines-spec =
     (tie.spec
     Inv-loop
     μ-loop
-    nothing-seen-requires
     loop-holds
     find-requires
-    add-t15
+    add-t16
     returns
     sub-line
     part-line-start
@@ -128,7 +102,7 @@ check-lines-spec =
     read-line-requires
     cause-of-requires
     enum-known-cause
-    add-t20
+    add-t22
     returns-2
     enum-told
     add-advance

@@ -42,13 +42,13 @@ returns : tie.Need-returns
 returns c = simp (c .before .before .enum-told .given .1, sym (c .before .part .ensures)) (c .phrase-fault .ensures)
 
 returns-2 : tie.Need-returns-2
-returns-2 c = simp (c .before .enum-told2 .given .1) (c .if-fault .ensures (c .before .enum-told2 .given .0 .0))
+returns-2 c = simp (c .before .enum-told2 .given .1) (c .if-fault .ensures (c .before .before .before .before .before .before .before .args .opens .now) (c .before .enum-told2 .given .0 .0))
 
 returns-3 : tie.Need-returns-3
 returns-3 c = simp (c .before .enum-told3 .given .1) (c .else-fault .ensures)
 
 returns-4 : tie.Need-returns-4
-returns-4 c = simp (c .before .enum-told4 .given .1) (c .fi-fault .ensures)
+returns-4 c = simp (c .before .enum-told4 .given .1) (c .fi-fault .ensures (c .before .before .before .before .before .before .before .args .opens .now))
 
 returns-5 : tie.Need-returns-5
 returns-5 c = simp (c .before .head .given .1)

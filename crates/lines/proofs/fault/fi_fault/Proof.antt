@@ -4,10 +4,10 @@ use Rattle.lines.proofs.fault.fi_fault.Statement.{statement}
 use Rattle.lines.proofs.fault.fi_fault.Tie as tie
 
 returns : tie.Need-returns
-returns c = simp (none-open (c .before .before .args .s .opens) _ (c .if1 .taken))
+returns c = λ os. simp (none-open os _ (c .if1 .taken))
 
 returns-2 : tie.Need-returns-2
-returns-2 c = simp (innermost (c .before .before .args .s .opens) _ (c .if1 .left))
+returns-2 c = λ os. simp (innermost os _ (c .if1 .left))
 
 pub fi-fault-spec : {M : Type 1} → statement M
 fi-fault-spec = tie.close (tie.spec returns returns-2)

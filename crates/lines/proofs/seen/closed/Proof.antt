@@ -11,9 +11,8 @@ sub-t c = search needs
 returns : tie.Need-returns
 returns c =
     let s = c .before .args .s in
-    let h = c .before .pre .1 in
-    λ n. record {
-      holds = λ own e. record { own = e; rest = simp (innermost (s .opens) (s .depth) (λ z. omega arith)) };
+    λ n os h. record {
+      holds = λ own e. record { own = e; rest = simp (innermost os (s .depth) (λ z. omega arith)) };
       sound = record { depth = omega (arith, h .depth); size = h .size };
     }
 

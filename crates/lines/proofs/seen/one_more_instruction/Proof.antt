@@ -9,8 +9,7 @@ add-t c = search needs
 
 returns : tie.Need-returns
 returns c =
-    let h = c .before .pre .1 in
-    record {
+    λ os h. record {
       holds = λ own e. record { own = e; rest = simp add-one };
       sound = record { depth = h .depth; size = h .size };
     }

@@ -12,8 +12,7 @@ add-t c = search needs
 
 returns : tie.Need-returns
 returns c =
-    let h = c .before .pre .1 in
-    λ n x. record {
+    λ n x os h. record {
       holds = λ own e. record { own = omega (arith, length-append own (x ∷ [])); rest = refl };
       sound = record { depth = h .depth; size = h .size };
     }

@@ -130,9 +130,12 @@ kind-as form w fs =
     word v h k = test-as (same w v) (λ e. rw (same-equal w v e) h) k
 
 -- a line is read from its parts between commas
-pub line-read-as : (form : Form) (s : List ℕ) → ReadAs form (split comma s) (lineOf form s)
-unfolding lineOf
-line-read-as form s = test-as (all allowed s) (λ e. go (split-some comma s)) (as-fault Byte)
+pub fields-read-as : (form : Form) (s : List ℕ) → ReadAs form (split comma s) (fieldsLine form (split comma s))
+fields-read-as form s = go (split-some comma s)
   where
     go : Some (split comma s) → ReadAs form (split comma s) (fieldsLine form (split comma s))
     go (w, fs, e) = rw e (kind-as form w fs)
+
+pub line-read-as : (form : Form) (s : List ℕ) → ReadAs form (split comma s) (lineOf form s)
+unfolding lineOf
+line-read-as form s = test-as (all allowed s) (λ e. fields-read-as form s) (as-fault Byte)

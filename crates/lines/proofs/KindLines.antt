@@ -26,7 +26,7 @@ use Rattle.lines.specs.declared.words.Kind.the-variants.{
   Goto,
   Unknown,
 }
-use Rattle.lines.specs.Line.{Line, operator, kindLine, lineOf}
+use Rattle.lines.specs.Line.{Line, operator, kindLine, fieldsLine, lineOf}
 use Rattle.lines.specs.Words.{kindOf, lineOfKind}
 
 kind-line : (form : Form) (w : List ℕ) (fs : List (List ℕ)) → kindLine form w fs ≡ lineOfKind form (kindOf w) fs
@@ -46,15 +46,20 @@ kind-line form w fs =
     test true k j m h = refl
     test false k j m h = h
 
--- a line of allowed bytes, whose first field p ends at e and names the kind k
-pub line-of-kind : (form : Form) (s p : List ℕ) (k : Kind) (e : ℕ) → all allowed s ≡ true → e ≡ 0 + untilByte comma (drop 0 s) → p ≡ take e s
-    → k ≡ kindOf p → lineOf form s ≡ lineOfKind form k (partsFrom comma (e + 1) s)
-unfolding lineOf
-line-of-kind form s p k e h u f d =
+-- a line whose first field p ends at e and names the kind k
+pub fields-of-kind : (form : Form) (s p : List ℕ) (k : Kind) (e : ℕ) → e ≡ 0 + untilByte comma (drop 0 s) → p ≡ take e s → k ≡ kindOf p
+    → fieldsLine form (split comma s) ≡ lineOfKind form k (partsFrom comma (e + 1) s)
+fields-of-kind form s p k e u f d =
     let size : e - 0 ≡ e = omega arith in
     let fields : split comma s ≡ take e s ∷ partsFrom comma (e + 1) s =
     parts-whole comma s ∙ rw size at (parts-next comma s 0 e (omega arith) u) in
-    rw (h, fields, d, f) (kind-line form (take e s) (partsFrom comma (e + 1) s))
+    rw (fields, d, f) (kind-line form (take e s) (partsFrom comma (e + 1) s))
+
+-- and whose bytes are allowed
+pub line-of-kind : (form : Form) (s p : List ℕ) (k : Kind) (e : ℕ) → all allowed s ≡ true → e ≡ 0 + untilByte comma (drop 0 s) → p ≡ take e s
+    → k ≡ kindOf p → lineOf form s ≡ lineOfKind form k (partsFrom comma (e + 1) s)
+unfolding lineOf
+line-of-kind form s p k e h u f d = rw h (fields-of-kind form s p k e u f d)
 
 -- what a word gives that was found the same as the word v
 pub by-word : {A : Type 0} (f : List ℕ → A) (w v : List ℕ) {r : Bool} → r ≡ same w v → r ≡ true → f v ≡ f w

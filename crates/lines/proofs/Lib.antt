@@ -13,5 +13,6 @@ pub mod Room
 pub mod OwnFirst
 pub mod LinesPassed
 pub mod Answers
+pub mod FieldBytes
 pub mod CleanLines
 pub mod CleanTexts

@@ -1,6 +1,8 @@
 // One line by itself.
 ghost use mathlib.Core.Path.{_≡_};
-ghost use Rattle.text.specs.Parts.{comma, partsFrom};
+ghost use mathlib.Core.Bool.{cond};
+ghost use Rattle.text.specs.Parts.{comma, partsFrom, all};
+ghost use Rattle.text.specs.Text.{allowed};
 ghost use Rattle.lines.specs.Line as line;
 ghost use Rattle.lines.specs.Words.{lineOfKind};
 ghost use Rattle.lines.specs.Answers.{headOf};
@@ -16,13 +18,24 @@ use crate::words::Kind;
 use crate::words::kind_of;
 use causes::Cause;
 
-// A line, or its cause 3, 4 or 5.
+// A line, or its cause 3, 4 or 5. Fields that make a line have allowed bytes alone, so that the bytes are judged where they make none.
 pub fn read_line(form: Form, s: &[u8]) -> Head
     ensures { λ r. ⌜ r ≡ headOf (line.lineOf form (now (s .entry))) ⌝ }
 {
+    let e = text::find(s, 0, b',');
+    let head = read_fields(form, kind_of(&s[..e]), s, e + 1);
+    match head {
+        Head::Faulty { cause: _ } => faulty_line(s, head),
+        _ => head,
+    }
+}
+
+// A line whose fields have this fault: a byte that is not allowed comes before it.
+fn faulty_line(s: &[u8], head: Head) -> Head
+    ensures { λ r. ⌜ r ≡ cond (all allowed (now (s .entry))) head (Head.Faulty Cause.Byte) ⌝ }
+{
     if text::are_allowed(s) {
-        let e = text::find(s, 0, b',');
-        return read_fields(form, kind_of(&s[..e]), s, e + 1);
+        return head;
     }
     Head::Faulty { cause: Cause::Byte }
 }

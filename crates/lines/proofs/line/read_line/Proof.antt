@@ -1,21 +1,24 @@
--- `read_line` meets its contract: the bytes are allowed, and the first field is the kind.
+-- `read_line` meets its contract: the first field is the kind, and where the fields make no line the bytes are judged first.
 use mathlib.Core.Path.{refl, sym, ap, _∙_}
+use mathlib.Core.Bool.{cond}
 use lib.Seq.{length-take-le}
 use borrow.Author.Needs.{needs}
-use Rattle.lines.specs.Line.{lineOf}
+use Rattle.causes.specs.declared.Cause.the-variants.{Byte}
+use Rattle.text.specs.Parts.{split, comma, all}
+use Rattle.text.specs.Text.{allowed}
+use Rattle.lines.specs.declared.Head.the-variants.{Faulty}
+use Rattle.lines.specs.Line.{fieldsLine}
 use Rattle.lines.specs.Answers.{headOf}
-use Rattle.lines.proofs.KindLines.{line-of-kind}
+use Rattle.lines.proofs.KindLines.{fields-of-kind}
+use Rattle.lines.proofs.FieldBytes.{line-by-fields, line-judged, head-clean}
 use Rattle.lines.proofs.line.read_line.Statement.{statement}
 use Rattle.lines.proofs.line.read_line.Tie as tie
-
-are-allowed-requires : tie.Need-are-allowed-requires
-are-allowed-requires c κs = search needs
 
 find-requires : tie.Need-find-requires
 find-requires c κs = search needs
 
 slice-aggregate-kind-of : tie.Need-slice-aggregate-kind-of
-slice-aggregate-kind-of c = sym (length-take-le _ (c .before .before .before .before .before .args .s .now) (c .before .find .ensures .1))
+slice-aggregate-kind-of c = sym (length-take-le _ (c .before .before .before .args .s .now) (c .before .find .ensures .1))
 
 kind-of-requires : tie.Need-kind-of-requires
 kind-of-requires c κs = search needs
@@ -26,26 +29,35 @@ add-read-fields c = search needs
 read-fields-requires : tie.Need-read-fields-requires
 read-fields-requires c κs = search needs
 
+enum-told : tie.Need-enum-told
+enum-told c = search needs
+
+faulty-line-requires : tie.Need-faulty-line-requires
+faulty-line-requires c κs = search needs
+
 returns : tie.Need-returns
-returns c =
-    let g = c .before .before .before .before .before .before .before .args in
-    let h = sym (c .before .before .before .before .before .are-allowed .ensures) ∙ c .before .before .before .before .if1 .taken in
-    c .read-fields .ensures
-    ∙ ap headOf (sym (line-of-kind _ (g .s .now) _ _ _ h (c .before .before .before .find .ensures .0) refl (c .before .kind-of .ensures)))
+returns c = let g = c .before .before .before .before .before .before .before .before .args in
+    let k = fields-of-kind (g .form) (g .s .now) _ _ _ (c .before .before .before .before .before .before .find .ensures .0) refl (c .before .before .before .before .kind-of .ensures) in
+    c .faulty-line .ensures
+    ∙ ap (λ h. cond (all allowed (g .s .now)) h (Faulty Byte)) (c .before .before .before .read-fields .ensures ∙ ap headOf (sym k))
+    ∙ sym (line-judged (g .form) (g .s .now))
 
 returns-2 : tie.Need-returns-2
-unfolding lineOf
-returns-2 c = simp (sym (c .before .are-allowed .ensures) ∙ c .if1 .left)
+returns-2 c = let g = c .before .before .before .before .before .before .args in
+    let k = fields-of-kind (g .form) (g .s .now) _ _ _ (c .before .before .before .before .find .ensures .0) refl (c .before .before .kind-of .ensures) in
+    let h = c .before .read-fields .ensures ∙ ap headOf (sym k) in
+    h ∙ ap headOf (sym (line-by-fields (g .form) (g .s .now) (head-clean (fieldsLine (g .form) (split comma (g .s .now))) h (c .match .keys2))))
 
 pub read-line-spec : {M : Type 1} → statement M
 read-line-spec =
     tie.close
     (tie.spec
-    are-allowed-requires
     find-requires
     slice-aggregate-kind-of
     kind-of-requires
     add-read-fields
     read-fields-requires
+    enum-told
+    faulty-line-requires
     returns
     returns-2)

@@ -1,5 +1,5 @@
 -- The head of a line that is no fault, by its kind: the fields' numbers alone tell it.
-use Prim.Native.Nat.{ℕ, _-_, _≤_, _<_}
+use Prim.Native.Nat.{ℕ, _-_, _≤_}
 use native.Mathlib.Omega.{arith}
 use mathlib.Core.Path.{_≡_, refl, sym, ap, _∙_}
 use mathlib.Core.List.{List, [], _∷_}
@@ -12,7 +12,6 @@ use Rattle.causes.specs.declared.Cause.the-variants.{Byte, Value}
 use Rattle.text.specs.Parts.{comma, split, partsFrom, all}
 use Rattle.text.specs.Text.{Text, allowed, isText}
 use Rattle.text.specs.Number.{register, skip}
-use Rattle.text.proofs.Places.{parts-none}
 use Rattle.transcript.specs.Statement.{input, inputs}
 use Rattle.transcript.specs.declared.Test.{Test}
 use Rattle.lines.specs.declared.Form.{Form}
@@ -84,12 +83,6 @@ inputs-room s a = go (partsFrom comma a s)
     go [] c = absurd (false≢true c)
     go (r ∷ []) c = absurd (false≢true c)
     go (r ∷ t ∷ os) c = omega arith
-
-pub inputs-there : (s : List ℕ) (a : ℕ) → Is (inputsLine (partsFrom comma a s)) → a ≤ length s
-inputs-there s a c = omega (arith, past)
-  where
-    past : length s < a → ⊥
-    past h = false≢true (ap (λ fs. isClean (inputsLine fs)) (sym (parts-none comma s a h)) ∙ c)
 
 -- the head of an if, by its test and its skip
 abbrev ifHead : Form → Option Test → Option ℕ → Head

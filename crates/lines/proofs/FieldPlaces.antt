@@ -30,6 +30,13 @@ module _ (s : List ℕ) (a : ℕ) where
   pub whole-rest : take (length s - a) (drop a s) ≡ drop a s
   whole-rest = take-all (length s - a) (drop a s) (omega (arith, length-drop a s))
 
+  -- where there are fields the place is in the line or at its end
+  pub fields-there : (length (partsFrom comma a s) ≡ 0 → ⊥) → a ≤ length s
+  fields-there h = omega (arith, past)
+    where
+      past : length s < a → ⊥
+      past k = h (ap length (parts-none comma s a k))
+
   -- ---- one text
 
   pub one-text : (t : Text) → t ≡ drop a s → a ≤ length s → isText t ≡ true → partsFrom comma a s ≡ t ∷ []

@@ -14,5 +14,6 @@ pub mod OwnFirst
 pub mod LinesPassed
 pub mod Answers
 pub mod FieldBytes
+pub mod FieldCommas
 pub mod CleanLines
 pub mod CleanTexts

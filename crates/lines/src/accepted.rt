@@ -10,6 +10,7 @@ use crate::Form;
 use crate::Head;
 use crate::fields::TestRead;
 use crate::fields::behind;
+use crate::fields::count_fields;
 use crate::fields::field_at;
 use crate::fields::read_test;
 use crate::words::Kind;
@@ -72,7 +73,7 @@ fn accepted_inputs(s: &[u8], a: usize) -> Head
     };
     Head::Inputs {
         register: register as usize,
-        options: text::count_parts(&s[a..], b',') - 2,
+        options: count_fields(s, a) - 2,
     }
 }
 

@@ -44,6 +44,24 @@ pub fn behind(s: &[u8], a: usize) -> usize
     text::find(s, a, b',') + 1
 }
 
+// How many fields there are.
+pub fn count_fields(s: &[u8], a: usize) -> usize
+    ensures { λ r. ⌜ r ≡ length (partsFrom comma a (now (s .entry))) ⌝ }
+{
+    if s.len() < a {
+        return 0;
+    }
+    let mut n = 1;
+    let mut i = a;
+    while i < s.len() {
+        if s[i] == b',' {
+            n += 1;
+        }
+        i += 1;
+    }
+    n
+}
+
 // One text, of a line with this head: `phrase,TEXT`, `print,TEXT` and `printex,TEXT`. A text has no comma, so it is the only field.
 pub fn read_text(s: &[u8], a: usize, head: Head) -> Head
     ensures { λ r. ⌜ ((l : Text → line.Line) → ((t : Text) → headOf (l t) ≡ head) → r ≡ headOf (line.textLine l (partsFrom comma a (now (s .entry))))) ⌝ }
@@ -92,10 +110,7 @@ pub fn read_input(s: &[u8], a: usize) -> Head
 pub fn read_inputs(s: &[u8], a: usize) -> Head
     ensures { λ r. ⌜ r ≡ headOf (line.inputsLine (partsFrom comma a (now (s .entry)))) ⌝ }
 {
-    if s.len() < a {
-        return Head::Faulty { cause: Cause::Kind };
-    }
-    let n = text::count_parts(&s[a..], b',');
+    let n = count_fields(s, a);
     if n < 4 {
         return Head::Faulty { cause: Cause::Kind };
     }
@@ -153,10 +168,9 @@ pub fn read_if(form: Form, s: &[u8], a: usize) -> Head
 }
 
 fn read_guide_if(s: &[u8], a: usize) -> Head
-    requires { ⌜ a ≤ length (now s) ⌝ }
     ensures { λ r. ⌜ r ≡ headOf (line.ifFields Form.Guide (partsFrom comma a (now (s .entry)))) ⌝ }
 {
-    if text::count_parts(&s[a..], b',') != 3 {
+    if count_fields(s, a) != 3 {
         return Head::Faulty { cause: Cause::Kind };
     }
     let TestRead::Is(test) = read_test(s, a) else {
@@ -171,7 +185,7 @@ fn read_listing_if(s: &[u8], a: usize) -> Head
     requires { ⌜ a ≤ length (now s) ⌝ }
     ensures { λ r. ⌜ r ≡ headOf (line.ifFields Form.Listing (partsFrom comma a (now (s .entry)))) ⌝ }
 {
-    if text::count_parts(&s[a..], b',') != 4 {
+    if count_fields(s, a) != 4 {
         return Head::Faulty { cause: Cause::Kind };
     }
     let TestRead::Is(test) = read_test(s, a) else {

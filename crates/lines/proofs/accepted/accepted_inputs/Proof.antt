@@ -6,8 +6,7 @@ use lib.ListN.{length}
 use borrow.Author.Needs.{needs}
 use Rattle.text.specs.Parts.{comma, partsFrom}
 use Rattle.lines.specs.declared.Head.the-variants.{Inputs}
-use Rattle.lines.proofs.CleanLines.{headGiven, inputs-clean, inputs-there, inputs-room}
-use Rattle.lines.proofs.FieldPlaces.{rest-parts}
+use Rattle.lines.proofs.CleanLines.{headGiven, inputs-clean, inputs-room}
 use Rattle.lines.proofs.FieldValues.{number-read, number-wrong}
 use Rattle.lines.proofs.accepted.accepted_inputs.Statement.{statement}
 use Rattle.lines.proofs.accepted.accepted_inputs.Tie as tie
@@ -25,8 +24,7 @@ enum-told : tie.Need-enum-told
 enum-told c = search needs
 
 returns : tie.Need-returns
-returns c =
-    let r = number-wrong (c .before .before .before .field-at .ensures) 31 (c .before .before .read-natural .ensures) (c .enum-told .given .1) in
+returns c = let r = number-wrong (c .before .before .before .field-at .ensures) 31 (c .before .before .read-natural .ensures) (c .enum-told .given .1) in
     let g = c .before .before .before .before .before .args in
     let fs = partsFrom comma (g .a) (g .s .now) in
     ap (λ o. headGiven o (λ n. Inputs n (length fs - 2))) (sym r) ∙ inputs-clean fs (c .before .before .before .before .before .pre)
@@ -34,31 +32,17 @@ returns c =
 cast-t7 : tie.Need-cast-t7
 cast-t7 c = search needs
 
-sub-count-parts : tie.Need-sub-count-parts
-sub-count-parts c = inputs-there (c .before .before .before .before .before .before .args .s .now) (c .before .before .before .before .before .before .args .a) (c .before .before .before .before .before .before .pre)
+count-fields-requires : tie.Need-count-fields-requires
+count-fields-requires c κs = search needs
 
-part-count-parts-start : tie.Need-part-count-parts-start
-part-count-parts-start c = omega (arith, inputs-there (c .before .before .before .before .before .before .args .s .now) (c .before .before .before .before .before .before .args .a) (c .before .before .before .before .before .before .pre))
-
-part-count-parts-end : tie.Need-part-count-parts-end
-part-count-parts-end c = search needs
-
-count-parts-requires : tie.Need-count-parts-requires
-count-parts-requires c κs = search needs
-
-sub-t13 : tie.Need-sub-t13
-sub-t13 c =
-    let g = c .before .before .before .before .before .before .before .before .args in
-    let n = c .count-parts .ensures ∙ ap length (rest-parts (g .s .now) (g .a) (inputs-there (g .s .now) (g .a) (c .before .before .before .before .before .before .before .before .pre))) in
-    omega (arith, n, inputs-room (g .s .now) (g .a) (c .before .before .before .before .before .before .before .before .pre))
+sub-t9 : tie.Need-sub-t9
+sub-t9 c = omega (arith, c .count-fields .ensures, inputs-room (c .before .before .before .before .before .before .before .args .s .now) (c .before .before .before .before .before .before .before .args .a) (c .before .before .before .before .before .before .before .pre))
 
 returns-2 : tie.Need-returns-2
-returns-2 c =
-    let g = c .before .before .before .before .before .before .before .before .args in
+returns-2 c = let g = c .before .before .before .before .before .before .before .args in
     let fs = partsFrom comma (g .a) (g .s .now) in
-    let n = c .count-parts .ensures ∙ ap length (rest-parts (g .s .now) (g .a) (inputs-there (g .s .now) (g .a) (c .before .before .before .before .before .before .before .before .pre))) in
-    let r = number-read (c .before .before .before .before .before .before .field-at .ensures) 31 (c .before .before .before .before .before .read-natural .ensures) (c .before .before .before .register .given .1) in
-    ap (λ n. Inputs (c .before .before .before .register .given .0 .0) (n - 2)) n ∙ ap (λ o. headGiven o (λ n. Inputs n (length fs - 2))) (sym r) ∙ inputs-clean fs (c .before .before .before .before .before .before .before .before .pre)
+    let r = number-read (c .before .before .before .before .before .field-at .ensures) 31 (c .before .before .before .before .read-natural .ensures) (c .before .before .register .given .1) in
+    ap (λ n. Inputs (c .before .before .register .given .0 .0) (n - 2)) (c .count-fields .ensures) ∙ ap (λ o. headGiven o (λ n. Inputs n (length fs - 2))) (sym r) ∙ inputs-clean fs (c .before .before .before .before .before .before .before .pre)
 
 pub accepted-inputs-spec : {M : Type 1} → statement M
 accepted-inputs-spec =
@@ -70,9 +54,6 @@ accepted-inputs-spec =
     enum-told
     returns
     cast-t7
-    sub-count-parts
-    part-count-parts-start
-    part-count-parts-end
-    count-parts-requires
-    sub-t13
+    count-fields-requires
+    sub-t9
     returns-2)

@@ -1,7 +1,7 @@
 -- `read_listing_if` meets its contract: four fields, of which the first three are a test and the last is a skip.
 use mathlib.Core.Path.{sym, ap, _∙_}
 use mathlib.Core.List.{[]}
-use lib.ListN.{length, getD}
+use lib.ListN.{getD}
 use borrow.Author.Tests.{eq-eqb, ne-eqb}
 use borrow.Author.Needs.{needs}
 use Rattle.lines.proofs.FieldCounts.{listing-if-counted}
@@ -10,24 +10,11 @@ use Rattle.lines.proofs.FieldValues.{number-read, number-wrong, test-re
 use Rattle.lines.proofs.fields.read_listing_if.Statement.{statement}
 use Rattle.lines.proofs.fields.read_listing_if.Tie as tie
 
-sub-count-parts : tie.Need-sub-count-parts
-sub-count-parts c = search needs
-
-part-count-parts-start : tie.Need-part-count-parts-start
-part-count-parts-start c = search needs
-
-part-count-parts-end : tie.Need-part-count-parts-end
-part-count-parts-end c = search needs
-
-count-parts-requires : tie.Need-count-parts-requires
-count-parts-requires c κs = search needs
+count-fields-requires : tie.Need-count-fields-requires
+count-fields-requires c κs = search needs
 
 returns : tie.Need-returns
-returns c =
-    let g = c .before .before .before .before .args in
-    let whole = rest-parts (g .s .now) (g .a) (c .before .before .before .before .pre) in
-    let n = sym (c .before .count-parts .ensures ∙ ap length whole) in
-    simp (listing-if-counted, n, ne-eqb _ _ (c .if1 .taken))
+returns c = simp (listing-if-counted, sym (c .before .count-fields .ensures), ne-eqb _ _ (c .if1 .taken))
 
 read-test-requires : tie.Need-read-test-requires
 read-test-requires c κs = search needs
@@ -39,12 +26,8 @@ enum-told : tie.Need-enum-told
 enum-told c = search needs
 
 returns-2 : tie.Need-returns-2
-returns-2 c =
-    let g = c .before .before .before .before .before .before .before .args in
-    let whole = rest-parts (g .s .now) (g .a) (c .before .before .before .before .before .before .before .pre) in
-    let n = sym (c .before .before .before .before .count-parts .ensures ∙ ap length whole) in
-    let t = test-read _ _ _ (c .before .before .read-test .ensures) (c .enum-told .given .1) in
-    simp (listing-if-counted, n, eq-eqb _ _ (c .before .before .before .if1 .left), t)
+returns-2 c = let t = test-read _ _ _ (c .before .before .read-test .ensures) (c .enum-told .given .1) in
+    simp (listing-if-counted, sym (c .before .before .before .before .count-fields .ensures), eq-eqb _ _ (c .before .before .before .if1 .left), t)
 
 sub-part : tie.Need-sub-part
 sub-part c = search needs
@@ -68,34 +51,27 @@ enum-told-2 : tie.Need-enum-told-2
 enum-told-2 c = search needs
 
 returns-3 : tie.Need-returns-3
-returns-3 c =
-    let g = c .before .before .before .before .before .before .before .before .before .before .before .before .before .args in
-    let whole = rest-parts (g .s .now) (g .a) (c .before .before .before .before .before .before .before .before .before .before .before .before .before .pre) in
-    let n = sym (c .before .before .before .before .before .before .before .before .before .before .count-parts .ensures ∙ ap length whole) in
+returns-3 c = let g = c .before .before .before .before .before .before .before .before .before .before .before .before .args in
+    let whole = rest-parts (g .s .now) (g .a) (c .before .before .before .before .before .before .before .before .before .before .before .before .pre) in
     let t = test-read _ _ _ (c .before .before .before .before .before .before .before .before .read-test .ensures) (c .before .before .before .before .before .before .test .given .1) in
     let k = number-wrong (c .before .before .before .part .ensures ∙ ap (λ fs. getD fs 3 []) whole) 511 (c .before .before .read-natural .ensures) (c .enum-told2 .given .1) in
-    simp (listing-if-counted, n, eq-eqb _ _ (c .before .before .before .before .before .before .before .before .before .if1 .left), t, k)
+    simp (listing-if-counted, sym (c .before .before .before .before .before .before .before .before .before .before .count-fields .ensures), eq-eqb _ _ (c .before .before .before .before .before .before .before .before .before .if1 .left), t, k)
 
-cast-t7 : tie.Need-cast-t7
-cast-t7 c = search needs
+cast-t5 : tie.Need-cast-t5
+cast-t5 c = search needs
 
 returns-4 : tie.Need-returns-4
-returns-4 c =
-    let g = c .before .before .before .before .before .before .before .before .before .before .before .before .before .before .args in
-    let whole = rest-parts (g .s .now) (g .a) (c .before .before .before .before .before .before .before .before .before .before .before .before .before .before .pre) in
-    let n = sym (c .before .before .before .before .before .before .before .before .before .before .before .count-parts .ensures ∙ ap length whole) in
+returns-4 c = let g = c .before .before .before .before .before .before .before .before .before .before .before .before .before .args in
+    let whole = rest-parts (g .s .now) (g .a) (c .before .before .before .before .before .before .before .before .before .before .before .before .before .pre) in
     let t = test-read _ _ _ (c .before .before .before .before .before .before .before .before .before .read-test .ensures) (c .before .before .before .before .before .before .before .test .given .1) in
     let k = number-read (c .before .before .before .before .part .ensures ∙ ap (λ fs. getD fs 3 []) whole) 511 (c .before .before .before .read-natural .ensures) (c .before .skip .given .1) in
-    simp (listing-if-counted, n, eq-eqb _ _ (c .before .before .before .before .before .before .before .before .before .before .if1 .left), t, k)
+    simp (listing-if-counted, sym (c .before .before .before .before .before .before .before .before .before .before .before .count-fields .ensures), eq-eqb _ _ (c .before .before .before .before .before .before .before .before .before .before .if1 .left), t, k)
 
 pub read-listing-if-spec : {M : Type 1} → statement M
 read-listing-if-spec =
     tie.close
     (tie.spec
-    sub-count-parts
-    part-count-parts-start
-    part-count-parts-end
-    count-parts-requires
+    count-fields-requires
     returns
     read-test-requires
     enum-known-test
@@ -109,5 +85,5 @@ read-listing-if-spec =
     enum-known-skip
     enum-told-2
     returns-3
-    cast-t7
+    cast-t5
     returns-4)

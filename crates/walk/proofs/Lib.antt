@@ -6,4 +6,5 @@ pub mod LineStatements
 pub mod Options
 pub mod Cycle
 pub mod WalkLines
+pub mod Rooms
 pub mod Whole

@@ -3,3 +3,4 @@ pub mod Call
 pub mod Descend
 pub mod Leaves
 pub mod Says
+pub mod Rooms

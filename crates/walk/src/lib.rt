@@ -1,8 +1,8 @@
 // The walker: runs a guide from its text.
 // specs/Walk.antt says what the walk of a block is; specs/Call.antt what the call answers and leaves in the lent buffer.
 // The book is checked, then the guide, and a refusal leaves the buffer as it was. The walk goes from line to line of the guide's text, as
-// specs/Descend.antt says: `block` and `statement` call each other, and a block that is not walked is passed over. It is made twice:
-// first on no buffer, to learn the transcript's length, and then on the lent one.
+// specs/Descend.antt says: `block` and `statement` call each other, and a block that is not walked is passed over. It is made once, on the
+// lent buffer, where that is surely long enough; else twice: first on no buffer, to learn the transcript's length.
 
 mod blocks;
 mod leave;

@@ -1,4 +1,4 @@
-// The walk in two passes.
+// The walk, in one pass or two.
 use crate::blocks::block;
 use causes::Cause;
 use causes::Ran;
@@ -8,10 +8,12 @@ use transcript::Performed;
 ghost use mathlib.Core.Path.{_≡_};
 ghost use mathlib.Core.List.{List};
 ghost use lib.IntN.{ℤ};
-ghost use Rattle.causes.specs.Answers.{made, lent, ranAnswer};
+ghost use Rattle.causes.specs.Answers.{made, ended, lent, ranAnswer};
+ghost use Rattle.causes.specs.Causes.{outcomeNumber};
 ghost use Rattle.transcript.specs.Perform.{report};
 ghost use Rattle.transcript.specs.Machine.{laid, performed};
 ghost use Rattle.walk.specs.Descend.{walkText};
+ghost use Rattle.walk.specs.Rooms.{Numbers};
 
 // The walk over a guide's lines, with registers that are all 0 at first: the buffer takes as much of the transcript as it has room for.
 fn produce(guide: &[u8], answers: &[i32], out: &mut [u8]) -> Performed
@@ -31,25 +33,48 @@ fn produce(guide: &[u8], answers: &[i32], out: &mut [u8]) -> Performed
     w.left
 }
 
-// The walk of an accepted guide: first on no buffer, to learn the transcript's length; then 11, or the transcript is written.
+// What is answered for a walk whose whole transcript is written.
+fn done(p: Performed) -> Ran
+    ensures { λ r. ⌜ ranAnswer r ≡ ended (p .end) (outcomeNumber (p .outcome)) (p .machine .taken) (p .machine .steps) ⌝ }
+{
+    let outcome = p.outcome;
+    let m = p.machine;
+    Ran::Done(Report {
+        length: p.end,
+        outcome,
+        taken: m.taken,
+        steps: m.steps,
+    })
+}
+
+// Every answer is read, and so known to be a number of 32 bits.
+fn read_all(answers: &[i32])
+    ensures { λ _. ⌜ Numbers (now (answers .entry)) ⌝ }
+{
+    let mut i = 0;
+    while i < answers.len() {
+        let answer = answers[i];
+        i += 1;
+    }
+}
+
+// The walk of an accepted guide. A buffer as long as the guide, with 14 bytes more for each answer, takes any transcript. Else the walk is
+// made on no buffer first, to learn the transcript's length; then 11, or the transcript is written.
 pub fn write(guide: &[u8], answers: &[i32], transcript: &mut [u8]) -> Ran
     ensures { λ r. ⌜ (ranAnswer r, now (transcript .exit)) ≡ lent (made (report (walkText (now (guide .entry)) (now (answers .entry))))) (now (transcript .entry)) ⌝ }
 {
-    let p = produce(guide, answers, &mut []);
-    let length = p.end;
+    if answers.len() <= 65536 {
+        if guide.len() + 14 * answers.len() <= transcript.len() {
+            read_all(answers);
+            return done(produce(guide, answers, transcript));
+        }
+    }
+    let length = produce(guide, answers, &mut []).end;
     if transcript.len() < length {
         return Ran::Refused(Refusal {
             cause: Cause::TooShort,
             place: 0,
         });
     }
-    let p = produce(guide, answers, transcript);
-    let outcome = p.outcome;
-    let m = p.machine;
-    Ran::Done(Report {
-        length,
-        outcome,
-        taken: m.taken,
-        steps: m.steps,
-    })
+    done(produce(guide, answers, transcript))
 }

@@ -1,35 +1,70 @@
--- `write` meets its contract: 11 where the buffer is too short, and else the whole transcript.
+-- `write` meets its contract: the whole transcript where the buffer is surely long enough; else 11 where it is too short, and else the whole.
 use native.Mathlib.Omega.{arith}
-use Rattle.transcript.proofs.Passes.{too-short, whole}
+use Rattle.transcript.proofs.Passes.{too-short}
+use Rattle.walk.proofs.Rooms.{text-fits, text-ends, text-written}
 use borrow.Author.Needs.{needs}
 use Rattle.walk.proofs.passes.write.Statement.{statement}
 use Rattle.walk.proofs.passes.write.Tie as tie
 
-slice-aggregate-produce : tie.Need-slice-aggregate-produce
-slice-aggregate-produce c = search needs
+mul-if2 : tie.Need-mul-if2
+mul-if2 c = search needs
+
+add-if2 : tie.Need-add-if2
+add-if2 c = search needs
+
+read-all-requires : tie.Need-read-all-requires
+read-all-requires c κs = search needs
 
 produce-requires : tie.Need-produce-requires
 produce-requires c κs = search needs
 
-returns : tie.Need-returns
-returns c = too-short _ _ _ _ _ _ (c .before .before .produce .ensures .1) _ (omega arith)
-
-produce-requires-2 : tie.Need-produce-requires-2
-produce-requires-2 c κs = search needs
+done-requires : tie.Need-done-requires
+done-requires c κs = search needs
 
 same-length : tie.Need-same-length
 same-length c = search needs
 
+returns : tie.Need-returns
+returns c = text-written _ _ _ _ _ _ (c .before .before .before .produce .ensures .1) _ (c .done .ensures) (text-fits _ _ _ _ _ _ (c .before .before .before .produce .ensures .1) (c .before .before .before .before .before .read-all .ensures) (omega arith)) (omega arith)
+
+slice-aggregate-produce : tie.Need-slice-aggregate-produce
+slice-aggregate-produce c = search needs
+
+produce-requires-2 : tie.Need-produce-requires-2
+produce-requires-2 c κs = search needs
+
 returns-2 : tie.Need-returns-2
-returns-2 c = whole _ _ _ _ _ _ (c .before .before .before .before .before .before .before .produce .ensures .1) _ _ _ _ (c .before .before .before .produce2 .ensures .1) (omega arith) (omega arith)
+returns-2 c = too-short _ _ _ _ _ _ (c .before .before .produce2 .ensures .1) _ (omega arith)
+
+produce-requires-3 : tie.Need-produce-requires-3
+produce-requires-3 c κs = search needs
+
+done-requires-2 : tie.Need-done-requires-2
+done-requires-2 c κs = search needs
+
+same-length-2 : tie.Need-same-length-2
+same-length-2 c = search needs
+
+returns-3 : tie.Need-returns-3
+returns-3 c =
+    let e = text-ends _ _ _ _ _ _ (c .before .before .before .produce3 .ensures .1) _ _ _ _ (c .before .before .before .before .before .before .before .produce2 .ensures .1) in
+    text-written _ _ _ _ _ _ (c .before .before .before .produce3 .ensures .1) _ (c .done2 .ensures) (omega arith) (omega arith)
 
 pub write-spec : {M : Type 1} → statement M
 write-spec =
     tie.close
     (tie.spec
-    slice-aggregate-produce
+    mul-if2
+    add-if2
+    read-all-requires
     produce-requires
-    returns
-    produce-requires-2
+    done-requires
     same-length
-    returns-2)
+    returns
+    slice-aggregate-produce
+    produce-requires-2
+    returns-2
+    produce-requires-3
+    done-requires-2
+    same-length-2
+    returns-3)

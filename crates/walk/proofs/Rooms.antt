@@ -1,0 +1,253 @@
+-- The walk of a guide writes no more bytes than the guide has, and 14 for each answer: each statement's line is no longer than its line
+-- of the guide, of which none is walked twice, and an A line has at most 14 bytes.
+use Prim.Native.Nat.{ℕ, zero, suc, _+_, _*_, _≤_, _<_}
+use native.Mathlib.Omega.{arith}
+use mathlib.Core.Path.{_≡_, refl, sym, ap, _∙_}
+use mathlib.Core.List.{List, [], _∷_, _++_}
+use mathlib.Core.Bool.{Bool, true, false, cond}
+use lib.ListN.{length, drop, getD, length-append}
+use lib.IntN.{ℤ, pos}
+use lib.Signed.{mag}
+use lib.Dec.{eqb}
+use borrow.Author.Tests.{eqb-true, eqb-false}
+use Rattle.causes.specs.Answers.{made, Answer, lent}
+use Rattle.causes.specs.Answers as answer
+use Rattle.causes.specs.Causes.{outcomeNumber}
+use Rattle.text.specs.Parts.{split, join, comma, LF}
+use Rattle.text.specs.Text.{Text}
+use Rattle.text.proofs.Splits.{join-split}
+use Rattle.text.proofs.Constants.{decimal-short}
+use Rattle.output.proofs.Poured.{ended}
+use Rattle.transcript.specs.declared.Performed.{Performed}
+use Rattle.transcript.specs.Statement.{Statement, input, inputs, print, printex}
+use Rattle.transcript.specs.State.{TranscriptLine, asked, offered, answered, shown, ruled, State, start, step, writeLine, lineBytes, transcriptBytes}
+use Rattle.transcript.specs.Perform.{Ending, goesOn, verdict, waits, outside, takeAnswer, isOption, choose, perform, holds, stateOf, report}
+use Rattle.transcript.specs.Perform as perform
+use Rattle.transcript.specs.Machine.{Laid, laid, performed}
+use Rattle.transcript.proofs.Performs.{firstLine}
+use Rattle.transcript.proofs.Lay.{bytes-append, bytes-one}
+use Rattle.transcript.proofs.Follow.{lay-bytes}
+use Rattle.transcript.proofs.Passes.{whole}
+use Rattle.lines.specs.declared.Form.{Form}
+use Rattle.lines.specs.declared.Form.the-variants.{Guide as aGuide}
+use Rattle.lines.specs.Line.{Line, phrase, says, ifLine, elseLine, fiLine, gotoLine, ifSkipLine, faulty, lineOf, unended, linesIn}
+use Rattle.lines.specs.Check.{linesOf}
+use Rattle.lines.proofs.FieldsRead.{ReadAs, as-fault, as-phrase, as-input, as-inputs, as-print, as-printex}
+use Rattle.lines.proofs.FieldsRead.{as-if, as-else, as-fi, as-goto, as-if-skip, line-read-as}
+use Rattle.guide.specs.Lines.{roleOf, inBlock, beginsBy, firstRole, stops, openBehind, pass, bodyLines, linesAt}
+use Rattle.walk.specs.Descend.{Left, Walker, here, follow, next, atElse, behindTrue, leaveTrue, leaveElse, elseBlock, walkIf}
+use Rattle.walk.specs.Rooms.{Numbers}
+use Rattle.walk.specs.Descend.{statementLine, statementWith, blockWith, descend, walkText}
+
+-- ---- what lines and answers still write
+
+-- the statement of a line
+abbrev lineRoom : Line → ℕ
+lineRoom (says x) = length (lineBytes (firstLine x))
+lineRoom (phrase t) = 0
+lineRoom (ifLine test) = 0
+lineRoom elseLine = 0
+lineRoom fiLine = 0
+lineRoom (gotoLine k) = 0
+lineRoom (ifSkipLine test k) = 0
+lineRoom (faulty c) = 0
+
+abbrev linesRoom : List Line → ℕ
+linesRoom [] = 0
+linesRoom (l ∷ ls) = lineRoom l + linesRoom ls
+
+abbrev answersRoom : List ℤ → ℕ
+answersRoom [] = 0
+answersRoom (a ∷ rest) = length (lineBytes (answered a)) + answersRoom rest
+
+-- what is written, and what the answers left still write
+abbrev stateRoom : State → ℕ
+stateRoom s = length (transcriptBytes (s .transcript)) + answersRoom (s .left)
+
+-- what k leaves is no more than there was
+abbrev Within : Walker → Type 0
+Within k = (s : State) (ls : List Line) → stateRoom (stateOf (k s ls .ending)) + linesRoom (k s ls .lines) ≤ stateRoom s + linesRoom ls
+
+-- ---- a statement
+
+line-more : (t : List TranscriptLine) (l : TranscriptLine)
+    → length (transcriptBytes (t ++ (l ∷ []))) ≡ length (transcriptBytes t) + length (lineBytes l)
+line-more t l = ap length (bytes-append t (l ∷ [])) ∙ simp (length-append, bytes-one)
+
+answer-room : (r : ℕ) (left : List ℤ) (s : State) → s .left ≡ left → stateRoom (stateOf (perform.answer r left s)) ≤ stateRoom s
+answer-room r [] s e = omega arith
+answer-room r (a ∷ rest) s e = rw e (omega (arith, line-more (s .transcript) (answered a)))
+
+choose-room : (r n : ℕ) (left : List ℤ) (s : State) → s .left ≡ left → stateRoom (stateOf (choose r n left s)) ≤ stateRoom s
+choose-room r n [] s e = omega arith
+choose-room r n (a ∷ rest) s e = go (isOption n a)
+  where
+    go : (v : Bool) → stateRoom (stateOf (cond v (goesOn (takeAnswer r a rest s)) (outside s))) ≤ stateRoom s
+    go true = rw e (omega (arith, line-more (s .transcript) (answered a)))
+    go false = omega arith
+
+perform-room : (x : Statement) (s : State) → stateRoom (stateOf (perform x s)) ≤ stateRoom s + length (lineBytes (firstLine x))
+unfolding perform
+perform-room (input r t) s = omega (arith, answer-room r (s .left) (writeLine (asked t) (step s)) refl, line-more (s .transcript) (asked t))
+perform-room (inputs r t os) s = omega (arith, choose-room r (length os) (s .left) (writeLine (offered t os) (step s)) refl, line-more (s .transcript) (offered t os))
+perform-room (print t) s = omega (arith, line-more (s .transcript) (shown t))
+perform-room (printex t) s = omega (arith, line-more (s .transcript) (ruled t))
+
+-- ---- lines passed
+
+drop-room : (ls : List Line) → linesRoom (drop 1 ls) ≤ linesRoom ls
+drop-room [] = omega arith
+drop-room (l ∷ ls) = omega arith
+
+pass-room : (d : ℕ) (ls : List Line) → linesRoom (pass d ls) ≤ linesRoom ls
+unfolding pass
+pass-room d [] = omega arith
+pass-room d (l ∷ ls) = go (stops (roleOf l) d) (pass-room (openBehind (roleOf l) d) ls)
+  where
+    go : (v : Bool) → linesRoom (pass (openBehind (roleOf l) d) ls) ≤ linesRoom ls
+        → linesRoom (elim v [ true ↦ l ∷ ls | false ↦ pass (openBehind (roleOf l) d) ls ]) ≤ linesRoom (l ∷ ls)
+    go true h = omega arith
+    go false h = omega arith
+
+-- ---- the walk over lines
+
+follow-room : (e : Ending) (ls : List Line) (k : Walker) → Within k
+    → stateRoom (stateOf (follow e ls k .ending)) + linesRoom (follow e ls k .lines) ≤ stateRoom (stateOf e) + linesRoom ls
+follow-room (goesOn s) ls k h = h s ls
+follow-room (verdict s) ls k h = omega arith
+follow-room (waits s) ls k h = omega arith
+follow-room (outside s) ls k h = omega arith
+
+next-within : (f k : Walker) → Within f → Within k → Within (λ s ls. next (f s ls) k)
+unfolding next
+next-within f k h i s ls = omega (arith, follow-room (f s ls .ending) (f s ls .lines) k i, h s ls)
+
+true-within : Within leaveTrue
+unfolding leaveTrue
+true-within s ls = go (atElse ls)
+  where
+    go : (v : Bool) → stateRoom (stateOf (behindTrue v s ls .ending)) + linesRoom (behindTrue v s ls .lines) ≤ stateRoom s + linesRoom ls
+    go true = omega (arith, drop-room (pass 0 (drop 1 ls)), pass-room 0 (drop 1 ls), drop-room ls)
+    go false = omega (arith, drop-room ls)
+
+else-within : Within leaveElse
+unfolding leaveElse
+else-within s ls = omega (arith, drop-room ls)
+
+block-within : (v : Bool) (k : Walker) → Within k → Within (elseBlock v k)
+unfolding elseBlock
+block-within true k h s ls = omega (arith, next-within k leaveElse h else-within s (drop 1 ls), drop-room ls)
+block-within false k h s ls = omega (arith, drop-room ls)
+
+if-within : (v : Bool) (k : Walker) → Within k → Within (walkIf v k)
+unfolding walkIf
+if-within true k h s ls = next-within k leaveTrue h true-within s ls
+if-within false k h s ls = omega (arith, block-within (atElse (pass 0 ls)) k h s (pass 0 ls), pass-room 0 ls)
+
+here-within : Within here
+here-within s ls = omega arith
+
+statement-within : (k : Walker) → Within k → Within (statementWith k)
+unfolding statementWith
+statement-within k h s [] = omega arith
+statement-within k h s (says x ∷ ls) = omega (arith, follow-room (perform x s) ls here here-within, perform-room x s)
+statement-within k h s (ifLine test ∷ ls) = omega (arith, if-within (holds test s) k h (step s) ls)
+statement-within k h s (phrase t ∷ ls) = omega arith
+statement-within k h s (elseLine ∷ ls) = omega arith
+statement-within k h s (fiLine ∷ ls) = omega arith
+statement-within k h s (gotoLine n ∷ ls) = omega arith
+statement-within k h s (ifSkipLine test n ∷ ls) = omega arith
+statement-within k h s (faulty c ∷ ls) = omega arith
+
+descend-within : (n : ℕ) → Within (descend n)
+unfolding descend blockWith
+descend-within zero s ls = omega arith
+descend-within (suc n) s ls = go (beginsBy (firstRole ls)) (descend-within n)
+  where
+    go : (v : Bool) → Within (descend n)
+        → stateRoom (stateOf (blockWith v (descend n) s ls .ending)) + linesRoom (blockWith v (descend n) s ls .lines) ≤ stateRoom s + linesRoom ls
+    go true h = next-within (statementWith (descend n)) (descend n) (statement-within (descend n) h) h s ls
+    go false h = omega arith
+
+-- ---- the lines of a guide
+
+read-room : {form : Form} {fs : List (List ℕ)} {l : Line} → ReadAs form fs l → lineRoom l ≤ suc (length (join comma fs))
+unfolding join lineBytes
+read-room (as-fault c) = omega arith
+read-room (as-phrase h) = omega arith
+read-room (as-input r h) = simp length-append (omega arith)
+read-room (as-inputs n r h) = simp length-append (omega arith)
+read-room (as-print h) = simp length-append (omega arith)
+read-room (as-printex h) = simp length-append (omega arith)
+read-room (as-if r o c) = omega arith
+read-room as-else = omega arith
+read-room as-fi = omega arith
+read-room (as-goto k) = omega arith
+read-room (as-if-skip r o c k) = omega arith
+
+line-room : (t : List ℕ) → lineRoom (lineOf aGuide t) ≤ suc (length t)
+line-room t = rw join-split at (read-room (line-read-as aGuide t))
+
+parts-room : (ps : List (List ℕ)) → linesRoom (linesIn aGuide ps) ≤ length (join LF ps)
+unfolding linesIn join
+parts-room [] = omega arith
+parts-room ([] ∷ []) = omega arith
+parts-room ((b ∷ p) ∷ []) = omega arith
+parts-room (p ∷ q ∷ ps) = simp length-append (omega (arith, line-room p, parts-room (q ∷ ps)))
+
+body-room : (ls : List Line) → linesRoom (bodyLines ls) ≤ linesRoom ls
+unfolding bodyLines
+body-room [] = omega arith
+body-room (l ∷ ls) = go (inBlock (roleOf l)) (body-room ls)
+  where
+    go : (v : Bool) → linesRoom (bodyLines ls) ≤ linesRoom ls
+        → linesRoom (elim v [ true ↦ l ∷ bodyLines ls | false ↦ bodyLines ls ]) ≤ linesRoom (l ∷ ls)
+    go true h = omega arith
+    go false h = omega arith
+
+guide-room : (g : List ℕ) → linesRoom (linesAt g 0) ≤ length g
+unfolding linesAt
+guide-room g = omega (arith, body-room (linesOf aGuide g), parts-room (split LF g), ap length (join-split LF g))
+
+-- ---- the answers
+
+-- one more is read
+pub one-more : (answers : List ℤ) (i : ℕ) → ((j : ℕ) → j < i → mag (getD answers j (pos 0)) < 2147483648) → mag (getD answers i (pos 0)) < 2147483648
+    → (j : ℕ) → j < i + 1 → mag (getD answers j (pos 0)) < 2147483648
+one-more answers i h k j l = go (eqb j i) refl
+  where
+    go : (v : Bool) → eqb j i ≡ v → mag (getD answers j (pos 0)) < 2147483648
+    go true e = rw (eqb-true j i e) k
+    go false e = h j (omega (arith, eqb-false j i e))
+
+answers-room : (answers : List ℤ) → Numbers answers → answersRoom answers ≤ 14 * length answers
+unfolding lineBytes join
+answers-room [] h = omega arith
+answers-room (a ∷ rest) h =
+    let one : length (lineBytes (answered a)) ≤ 14 = simp length-append (omega (arith, decimal-short a (h 0 (omega arith)))) in
+    omega (arith, answers-room rest (λ i l. h (suc i) (omega arith)))
+
+-- ---- the whole walk
+
+text-room : (g : List ℕ) (answers : List ℤ) → Numbers answers
+    → length (transcriptBytes (stateOf (walkText g answers) .transcript)) ≤ length g + 14 * length answers
+unfolding walkText start transcriptBytes
+text-room g answers h =
+    omega (arith, descend-within (length g + 2) (start answers) (linesAt g 0), guide-room g, answers-room answers h)
+
+module _ (g : List ℕ) (answers rs : List ℤ) (p : Performed) (o out : List ℕ) (e : performed rs answers p o ≡ laid 0 (walkText g answers) out) where
+  -- a buffer of so many bytes takes it
+  pub text-fits : Numbers answers → length g + 14 * length answers ≤ length out → p .end ≤ length out
+  text-fits h l =
+      let new = transcriptBytes (stateOf (walkText g answers) .transcript) in
+      omega (arith, ended 0 new out (p .end) o (lay-bytes rs answers p o 0 (walkText g answers) out e), text-room g answers h)
+
+  -- it ends in every buffer at the same place
+  pub text-ends : (us : List ℤ) (q : Performed) (new old : List ℕ) → performed us answers q new ≡ laid 0 (walkText g answers) old → p .end ≡ q .end
+  unfolding performed laid
+  text-ends us q new old f = ap (λ (l : Laid). l .end) e ∙ sym (ap (λ (l : Laid). l .end) f)
+
+  -- and is written whole where it fits
+  pub text-written : (x : Answer) → x ≡ answer.ended (p .end) (outcomeNumber (p .outcome)) (p .machine .taken) (p .machine .steps)
+      → p .end ≤ length out → length out < 9223372036854775808 → (x, o) ≡ lent (made (report (walkText g answers))) out
+  text-written x d l f = ap (λ (y : Answer). (y, o)) d ∙ whole rs answers (walkText g answers) p o out e rs p o out e l f

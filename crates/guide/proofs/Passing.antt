@@ -11,8 +11,7 @@ use borrow.Author.Tests.{eq-eqb, ne-eqb}
 use Rattle.lines.specs.Line.{Line}
 use Rattle.guide.specs.declared.Role.{Role}
 use Rattle.guide.specs.declared.Role.the-variants.{Statement, If, Else, Fi, Nothing}
-use Rattle.guide.specs.declared.Here.{Here}
-use Rattle.guide.specs.Lines.{roleOf, inBlock, linesAt, firstRole, stops, openBehind, pass, First, Reads}
+use Rattle.guide.specs.Lines.{roleOf, inBlock, linesAt, firstRole, stops, openBehind, pass, Reads}
 
 -- ---- the tests
 
@@ -52,12 +51,12 @@ unfolding pass
 go d [] h = absurd (true≢false h)
 go d (l ∷ ls) h = rw (h, pass)
 
-module _ (g : List ℕ) (a d : ℕ) (h : Here) (r : Reads g a h) where
-  pub pass-stops : stops (h .role) d ≡ true → pass d (linesAt g a) ≡ linesAt g a
+module _ (g : List ℕ) (a d : ℕ) (role : Role) (n : ℕ) (r : Reads g a role n) where
+  pub pass-stops : stops role d ≡ true → pass d (linesAt g a) ≡ linesAt g a
   pass-stops v = stop d (linesAt g a) (rw (r .role) at v)
 
-  pub pass-goes : stops (h .role) d ≡ false → pass d (linesAt g a) ≡ pass (openBehind (h .role) d) (linesAt g (h .next))
-  pass-goes v = go d (linesAt g a) (rw (r .role) at v) ∙ ap (λ (x : Role). pass (openBehind x d) (drop 1 (linesAt g a))) (sym (r .role)) ∙ ap (pass (openBehind (h .role) d)) (sym (r .rest))
+  pub pass-goes : stops role d ≡ false → pass d (linesAt g a) ≡ pass (openBehind role d) (linesAt g n)
+  pass-goes v = go d (linesAt g a) (rw (r .role) at v) ∙ ap (λ (x : Role). pass (openBehind x d) (drop 1 (linesAt g a))) (sym (r .role)) ∙ ap (pass (openBehind role d)) (sym (r .rest))
 
-  pub pass-further : stops (h .role) d ≡ false → a < h .next
-  pass-further v = r .first (goes-in (h .role) d v) .further
+  pub pass-further : stops role d ≡ false → a < n
+  pass-further v = r .further (goes-in role d v)

@@ -4,10 +4,10 @@ use native.Mathlib.Omega.{arith}
 use mathlib.Core.Path.{_≡_, refl, sym, ap, _∙_}
 use mathlib.Core.List.{List, [], _∷_}
 use mathlib.Core.Bool.{true, false, false≢true}
-use lib.ListN.{length, take, drop, drop-of-length-le}
+use lib.ListN.{length, take, drop, getD, drop-of-length-le}
 use Rattle.causes.specs.declared.Cause.the-variants.{Byte}
-use Rattle.text.specs.Parts.{split, untilByte, LF}
-use Rattle.text.proofs.Places.{part-first, part-last}
+use Rattle.text.specs.Parts.{split, partsFrom, untilByte, same, all, comma, LF}
+use Rattle.text.proofs.Places.{part-first, part-last, parts-whole, parts-next}
 use Rattle.text.proofs.Splits.{Some, split-some}
 use Rattle.transcript.specs.Statement.{input, inputs, print, printex}
 use Rattle.lines.specs.declared.Form.the-variants.{Guide as aGuide}
@@ -16,10 +16,15 @@ use Rattle.lines.specs.declared.Head.the-variants.{Faulty}
 use Rattle.lines.specs.Line.{Line, phrase, says, ifLine, elseLine, fiLine, gotoLine, ifSkipLine, faulty, lineOf, unended, linesIn}
 use Rattle.lines.specs.Check.{linesOf}
 use Rattle.lines.specs.Answers.{headOf}
+use Rattle.lines.specs.declared.words.Kind.{Kind}
+use Rattle.lines.specs.Words.{kindOf}
+use Rattle.lines.specs.Clean.{isClean, Clean}
+use Rattle.lines.proofs.FieldsRead.{ReadAs, as-fault, as-phrase, as-input, as-inputs, as-print, as-printex, as-if, as-else, as-fi, line-read-as}
+use Rattle.lines.proofs.CleanTexts.{clean-behind}
 use Rattle.guide.specs.declared.Role.{Role}
 use Rattle.guide.specs.declared.Role.the-variants.{Statement, If, Else, Fi, Nothing}
 use Rattle.guide.specs.declared.Here.{Here}
-use Rattle.guide.specs.Lines.{roleOf, roleBy, inBlock, beginsBy, elseBy, bodyLines, linesAt, firstRole, Stands, First, Reads}
+use Rattle.guide.specs.Lines.{roleOf, roleBy, roleByKind, inBlock, beginsBy, elseBy, bodyLines, linesAt, firstRole, First, Reads, ReadsLine}
 
 -- a line's head has the line's role
 pub role-head : (l : Line) → roleBy (headOf l) ≡ roleOf l
@@ -72,9 +77,12 @@ module _ (g : List ℕ) (a e : ℕ) (k : e ≡ a + untilByte LF (drop a g)) wher
 
 -- ---- what is read from a on, where the lines from b on are the same
 
+end-clean : (g : List ℕ) (e : ℕ) → length g ≤ e → Clean aGuide (drop e g)
+unfolding all linesIn split
+end-clean g e h = rw (drop-of-length-le g h) refl
+
 module _ (g : List ℕ) (a b e : ℕ) (s : linesAt g a ≡ linesAt g b) (i : a ≤ b) (k : e ≡ b + untilByte LF (drop b g)) where
-  pub reads-none : e ≡ length g
-      → Reads g a (record { role = Nothing; head = Faulty Byte; start = e; end = e; next = e })
+  pub reads-none : e ≡ length g → Reads g a Nothing e
   reads-none l =
       let none = s ∙ no-line g b e k l in
       record {
@@ -82,31 +90,72 @@ module _ (g : List ℕ) (a b e : ℕ) (s : linesAt g a ≡ linesAt g b) (i : a �
         rest = at-end g e (omega arith) ∙ sym (ap (drop 1) none);
         onward = omega arith;
         within = omega arith;
-        first = λ v. absurd (false≢true v);
+        further = λ v. absurd (false≢true v);
+        clean = end-clean g e (omega arith);
       }
 
-  module _ (h : Head) (r : Role) (u : h ≡ headOf (lineOf aGuide (take (e - b) (drop b g)))) (w : r ≡ roleBy h) where
-    role-is : r ≡ roleOf (lineOf aGuide (take (e - b) (drop b g)))
-    role-is = w ∙ ap roleBy u ∙ role-head (lineOf aGuide (take (e - b) (drop b g)))
+  module _ (r : Role) (w : r ≡ roleOf (lineOf aGuide (take (e - b) (drop b g)))) where
+    line-first : inBlock r ≡ true → e < length g → linesAt g a ≡ lineOf aGuide (take (e - b) (drop b g)) ∷ linesAt g (e + 1)
+    line-first v l = s ∙ line-in g b e k l (ap inBlock (sym w) ∙ v)
 
-    pub reads-line : inBlock r ≡ true → e < length g
-        → Reads g a (record { role = r; head = h; start = b; end = e; next = e + 1 })
-    reads-line v l =
-        let f = s ∙ line-in g b e k l (ap inBlock (sym role-is) ∙ v) in
+    pub reads-role : inBlock r ≡ true → e < length g → Clean aGuide (drop b g) → Reads g a r (e + 1)
+    reads-role v l c =
+        let f = line-first v l in
         record {
-          role = role-is ∙ sym (ap firstRole f);
+          role = w ∙ sym (ap firstRole f);
           rest = sym (ap (drop 1) f);
           onward = omega arith;
           within = omega arith;
-          first = λ v. record {
-            lines = f;
-            stands = record { head = u; role = role-is; from = omega arith; to = omega arith; within = omega arith };
-            further = omega arith;
-          };
+          further = λ v. omega arith;
+          clean = clean-behind aGuide g b e k l c;
         }
 
     pub reads-on : inBlock r ≡ false → e < length g → linesAt g a ≡ linesAt g (e + 1)
-    reads-on v l = s ∙ line-out g b e k l (ap inBlock (sym role-is) ∙ v)
+    reads-on v l = s ∙ line-out g b e k l (ap inBlock (sym w) ∙ v)
+
+  module _ (h : Head) (r : Role) (u : h ≡ headOf (lineOf aGuide (take (e - b) (drop b g)))) (w : r ≡ roleBy h) where
+    pub role-is : r ≡ roleOf (lineOf aGuide (take (e - b) (drop b g)))
+    role-is = w ∙ ap roleBy u ∙ role-head (lineOf aGuide (take (e - b) (drop b g)))
+
+    pub reads-line : inBlock r ≡ true → e < length g → Clean aGuide (drop b g)
+        → ReadsLine g a (record { role = r; head = h; start = b; end = e; next = e + 1 })
+    reads-line v l c =
+        record {
+          reads = reads-role r role-is v l c;
+          first = λ v. record {
+            lines = line-first r role-is v l;
+            stands = record { head = u; role = role-is; from = omega arith; to = omega arith; within = omega arith };
+          };
+        }
+
+-- no line from a on
+pub none-line : (g : List ℕ) (a e : ℕ) → Reads g a Nothing e
+    → ReadsLine g a (record { role = Nothing; head = Faulty Byte; start = e; end = e; next = e })
+none-line g a e r = record { reads = r; first = λ v. absurd (false≢true v) }
+
+-- ---- the role by the kind
+
+read-kind : {fs : List (List ℕ)} {l : Line} → ReadAs aGuide fs l → isClean l ≡ true → roleByKind (kindOf (getD fs 0 [])) ≡ roleOf l
+unfolding kindOf same
+read-kind (as-fault c) v = absurd (false≢true v)
+read-kind (as-phrase h) v = refl
+read-kind (as-input r h) v = refl
+read-kind (as-inputs n r h) v = refl
+read-kind (as-print h) v = refl
+read-kind (as-printex h) v = refl
+read-kind (as-if r o c) v = refl
+read-kind as-else v = refl
+read-kind as-fi v = refl
+
+-- the first field of the line s ends at e
+pub role-by-kind : (s : List ℕ) (e : ℕ) (k : Kind) (r : Role) → isClean (lineOf aGuide s) ≡ true → e ≡ 0 + untilByte comma (drop 0 s)
+    → k ≡ kindOf (take e s) → r ≡ roleByKind k → r ≡ roleOf (lineOf aGuide s)
+role-by-kind s e k r c u d w =
+    let size : e - 0 ≡ e = omega arith in
+    let fields : split comma s ≡ take e s ∷ partsFrom comma (e + 1) s =
+    parts-whole comma s ∙ rw size at (parts-next comma s 0 e (omega arith) u) in
+    let said = read-kind (line-read-as aGuide s) c in
+    w ∙ ap roleByKind d ∙ rw fields at said
 
 -- where a statement or an if begins there is a line
 begins-in : (r : Role) → beginsBy r ≡ true → inBlock r ≡ true
@@ -116,8 +165,11 @@ begins-in Else h = absurd (false≢true h)
 begins-in Fi h = absurd (false≢true h)
 begins-in Nothing h = absurd (false≢true h)
 
-pub begins-first : (g : List ℕ) (a : ℕ) (h : Here) → Reads g a h → beginsBy (h .role) ≡ true → First g a h
+pub begins-first : (g : List ℕ) (a : ℕ) (h : Here) → ReadsLine g a h → beginsBy (h .role) ≡ true → First g a h
 begins-first g a h r v = r .first (begins-in (h .role) v)
+
+pub begins-further : (g : List ℕ) (a : ℕ) (role : Role) (n : ℕ) → Reads g a role n → beginsBy role ≡ true → a < n
+begins-further g a role n r v = r .further (begins-in role v)
 
 -- and so there is where an `else` stands
 else-in : (r : Role) → elseBy r ≡ true → inBlock r ≡ true
@@ -127,5 +179,5 @@ else-in Else h = refl
 else-in Fi h = refl
 else-in Nothing h = absurd (false≢true h)
 
-pub else-first : (g : List ℕ) (a : ℕ) (h : Here) → Reads g a h → elseBy (h .role) ≡ true → First g a h
-else-first g a h r v = r .first (else-in (h .role) v)
+pub else-further : (g : List ℕ) (a : ℕ) (role : Role) (n : ℕ) → Reads g a role n → elseBy role ≡ true → a < n
+else-further g a role n r v = r .further (else-in role v)

@@ -10,6 +10,9 @@ use Rattle.lines.specs.declared.Head.the-variants as head
 use Rattle.lines.specs.Line.{Line, phrase, says, ifLine, elseLine, fiLine, gotoLine, ifSkipLine, faulty, lineOf}
 use Rattle.lines.specs.Check.{linesOf}
 use Rattle.lines.specs.Answers.{headOf}
+use Rattle.lines.specs.declared.words.Kind.{Kind}
+use Rattle.lines.specs.declared.words.Kind.the-variants as kind
+use Rattle.lines.specs.Clean.{Clean}
 use Rattle.guide.specs.declared.Role.{Role}
 use Rattle.guide.specs.declared.Role.the-variants.{Statement, If, Else, Fi, Nothing}
 use Rattle.guide.specs.declared.Here.{Here}
@@ -38,6 +41,19 @@ roleBy head.Fi = Fi
 roleBy (head.Goto k) = Nothing
 roleBy (head.IfSkip test k) = Nothing
 roleBy (head.Faulty c) = Nothing
+
+-- the same, by the kind of a line that is no fault
+abbrev pub roleByKind : Kind → Role
+roleByKind kind.Phrase = Nothing
+roleByKind kind.Input = Statement
+roleByKind kind.Inputs = Statement
+roleByKind kind.Print = Statement
+roleByKind kind.Printex = Statement
+roleByKind kind.If = If
+roleByKind kind.Else = Else
+roleByKind kind.Fi = Fi
+roleByKind kind.Goto = Nothing
+roleByKind kind.Unknown = Nothing
 
 -- a line of a block
 abbrev pub inBlock : Role → Bool
@@ -120,12 +136,17 @@ pub record Stands (g : List ℕ) (h : Here) : Type 0 where
 pub record First (g : List ℕ) (a : ℕ) (h : Here) : Type 0 where
   pub lines : linesAt g a ≡ lineOf aGuide (lineText g h) ∷ linesAt g (h .next)
   pub stands : Stands g h
-  pub further : a < h .next
 
--- what the reader of the lines from a on answers
-pub record Reads (g : List ℕ) (a : ℕ) (h : Here) : Type 0 where
-  pub role : h .role ≡ firstRole (linesAt g a)
-  pub rest : linesAt g (h .next) ≡ drop 1 (linesAt g a)
-  pub onward : a ≤ h .next
-  pub within : h .next ≤ length g
+-- what a reader of the lines from a on answers: the role of the first one, and the place of the next, from which on no line is a fault
+pub record Reads (g : List ℕ) (a : ℕ) (r : Role) (n : ℕ) : Type 0 where
+  pub role : r ≡ firstRole (linesAt g a)
+  pub rest : linesAt g n ≡ drop 1 (linesAt g a)
+  pub onward : a ≤ n
+  pub within : n ≤ length g
+  pub further : inBlock r ≡ true → a < n
+  pub clean : Clean aGuide (drop n g)
+
+-- the same, with the line
+pub record ReadsLine (g : List ℕ) (a : ℕ) (h : Here) : Type 0 where
+  pub reads : Reads g a (h .role) (h .next)
   pub first : inBlock (h .role) ≡ true → First g a h

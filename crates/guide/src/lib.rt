@@ -1,6 +1,7 @@
 // A guide's blocks, where they stand in its text.
 // specs/Block.antt says which block a list of lines is, specs/Guide.antt what an accepted guide holds, and specs/Lines.antt what the
-// lines of blocks are from a place of the text on. A reader of the line at a place, and of the end of a block that is not walked.
+// lines of blocks are from a place of the text on. Readers of the line at a place, of its role alone, and of the end of a block that is not
+// walked. No line from the place on is a fault: an accepted guide has none.
 
 mod places;
 mod roles;
@@ -8,6 +9,7 @@ mod roles;
 use lines::Head;
 pub use places::line_at;
 pub use places::pass_over;
+pub use places::role_at;
 pub use roles::begins;
 pub use roles::is_else;
 
@@ -28,5 +30,11 @@ pub struct Here {
     pub head: Head,
     pub start: usize,
     pub end: usize,
+    pub next: usize,
+}
+
+// A line's role, and where the next line starts.
+pub struct LineRole {
+    pub role: Role,
     pub next: usize,
 }

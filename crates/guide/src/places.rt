@@ -1,22 +1,28 @@
 // The lines of blocks by their place in the guide's text.
 use crate::Here;
+use crate::LineRole;
 use crate::Role;
 use crate::roles::in_block;
 use crate::roles::open_behind;
 use crate::roles::role_of;
+use crate::roles::role_of_kind;
 use crate::roles::stops;
 use causes::Cause;
 use lines::Form;
 use lines::Head;
 ghost use mathlib.Core.Path.{_≡_};
+ghost use mathlib.Core.Bool.{true};
 ghost use Prim.Native.Nat.{_≤_};
-ghost use lib.ListN.{length};
-ghost use Rattle.guide.specs.Lines.{linesAt, pass, Reads};
+ghost use lib.ListN.{length, drop};
+ghost use Rattle.lines.specs.declared.Form.the-variants.{Guide as aGuide};
+ghost use Rattle.lines.specs.Line.{lineOf};
+ghost use Rattle.lines.specs.Clean.{isClean, Clean};
+ghost use Rattle.guide.specs.Lines.{roleOf, linesAt, pass, Reads, ReadsLine};
 
 // The first line of a block from the place a on: a line that is of no block is passed.
 pub fn line_at(guide: &[u8], a: usize) -> Here
-    requires { ⌜ a ≤ length (now guide) ⌝ }
-    ensures { λ r. ⌜ Reads (now (guide .entry)) a r ⌝ }
+    requires { ⌜ (a ≤ length (now guide)) × Clean aGuide (drop a (now guide)) ⌝ }
+    ensures { λ r. ⌜ ReadsLine (now (guide .entry)) a r ⌝ }
 {
     let mut start = a;
     loop {
@@ -30,7 +36,7 @@ pub fn line_at(guide: &[u8], a: usize) -> Here
                 next: end,
             };
         }
-        let head = lines::read_line(Form::Guide, &guide[start..end]);
+        let head = lines::accepted_line(Form::Guide, &guide[start..end]);
         let role = role_of(head);
         if in_block(role) {
             return Here {
@@ -45,16 +51,50 @@ pub fn line_at(guide: &[u8], a: usize) -> Here
     }
 }
 
+// The role of a line that is no fault: its kind tells it.
+fn role_in(line: &[u8]) -> Role
+    requires { ⌜ isClean (lineOf aGuide (now line)) ≡ true ⌝ }
+    ensures { λ r. ⌜ r ≡ roleOf (lineOf aGuide (now (line .entry))) ⌝ }
+{
+    let end = text::find(line, 0, b',');
+    role_of_kind(lines::kind_of(&line[..end]))
+}
+
+// The role of the first line of a block from the place a on.
+pub fn role_at(guide: &[u8], a: usize) -> LineRole
+    requires { ⌜ (a ≤ length (now guide)) × Clean aGuide (drop a (now guide)) ⌝ }
+    ensures { λ r. ⌜ Reads (now (guide .entry)) a (r .role) (r .next) ⌝ }
+{
+    let mut start = a;
+    loop {
+        let end = text::find(guide, start, b'\n');
+        if end == guide.len() {
+            return LineRole {
+                role: Role::Nothing,
+                next: end,
+            };
+        }
+        let role = role_in(&guide[start..end]);
+        if in_block(role) {
+            return LineRole {
+                role,
+                next: end + 1,
+            };
+        }
+        start = end + 1;
+    }
+}
+
 // Where the block that begins at a ends: its lines are not walked.
 pub fn pass_over(guide: &[u8], a: usize) -> usize
-    requires { ⌜ a ≤ length (now guide) ⌝ }
+    requires { ⌜ (a ≤ length (now guide)) × Clean aGuide (drop a (now guide)) ⌝ }
     ensures { λ r. ⌜ linesAt (now (guide .entry)) r ≡ pass 0 (linesAt (now (guide .entry)) a) ⌝ }
-    ensures { λ r. ⌜ (a ≤ r) × (r ≤ length (now (guide .entry))) ⌝ }
+    ensures { λ r. ⌜ (a ≤ r) × (r ≤ length (now (guide .entry))) × Clean aGuide (drop r (now (guide .entry))) ⌝ }
 {
     let mut at = a;
     let mut depth = 0;
     loop {
-        let h = line_at(guide, at);
+        let h = role_at(guide, at);
         let role = h.role;
         if stops(role, depth) {
             return at;

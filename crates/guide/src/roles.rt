@@ -1,9 +1,10 @@
 // The role of a line in a block, and what it means to a walk.
 use crate::Role;
 use lines::Head;
+use lines::Kind;
 ghost use mathlib.Core.Path.{_≡_};
 ghost use Prim.Native.Nat.{_-_, _<_};
-ghost use Rattle.guide.specs.Lines.{roleBy, inBlock, beginsBy, elseBy};
+ghost use Rattle.guide.specs.Lines.{roleBy, roleByKind, inBlock, beginsBy, elseBy};
 ghost use Rattle.guide.specs.Lines as lines;
 
 pub fn role_of(head: Head) -> Role
@@ -24,6 +25,23 @@ pub fn role_of(head: Head) -> Role
         Head::Goto { skip: _ } => Role::Nothing,
         Head::IfSkip { test: _, skip: _ } => Role::Nothing,
         Head::Faulty { cause: _ } => Role::Nothing,
+    }
+}
+
+pub fn role_of_kind(kind: Kind) -> Role
+    ensures { λ r. ⌜ r ≡ roleByKind kind ⌝ }
+{
+    match kind {
+        Kind::Phrase => Role::Nothing,
+        Kind::Input => Role::Statement,
+        Kind::Inputs => Role::Statement,
+        Kind::Print => Role::Statement,
+        Kind::Printex => Role::Statement,
+        Kind::If => Role::If,
+        Kind::Else => Role::Else,
+        Kind::Fi => Role::Fi,
+        Kind::Goto => Role::Nothing,
+        Kind::Unknown => Role::Nothing,
     }
 }
 

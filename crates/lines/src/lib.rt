@@ -19,6 +19,8 @@ use causes::Refusal;
 pub use checking::check;
 pub use line::read_line;
 use transcript::Test;
+pub use words::Kind;
+pub use words::kind_of;
 
 // The two texts that are read line by line.
 pub enum Form {

@@ -9,9 +9,10 @@ use mathlib.Core.Bool.{Bool, true, false}
 use lib.ListN.{length, drop, length-append}
 use Rattle.output.specs.Pour.{pour}
 use Rattle.output.proofs.Pour.{pour-length, pour-none, pour-then}
+use Rattle.lines.specs.declared.Form.the-variants.{Guide as aGuide}
+use Rattle.lines.specs.Clean.{Clean}
 use Rattle.lines.specs.Line.{Line}
 use Rattle.guide.specs.declared.Role.{Role}
-use Rattle.guide.specs.declared.Here.{Here}
 use Rattle.guide.specs.Lines.{firstRole, beginsBy, elseBy, linesAt, Reads}
 use Rattle.translate.specs.declared.lengths.Length.{Length}
 use Rattle.translate.specs.Lengths.{
@@ -99,29 +100,30 @@ table-size {first = first} {old} {x = x} e = ap length (e .table) ∙ pour-lengt
 
 module _ (g : List ℕ) (first : ℕ) (old : List ℕ) where
   module _ (n k a : ℕ) (table : List ℕ) (x : Extent) (left : Left first old k table (blockLength n (linesAt g a)) x) where
-    ended : blockLength n (linesAt g a) ≡ none (linesAt g a) → a ≤ length g → Counts g first old (lengthOf k a) x table
-    ended e w =
+    ended : blockLength n (linesAt g a) ≡ none (linesAt g a) → a ≤ length g → Clean aGuide (drop a g) → Counts g first old (lengthOf k a) x table
+    ended e w c =
         let same = ap (behind (left .before)) (sym e) ∙ left .whole in
         let skips : left .before ≡ x .skips = sym (append-nil (left .before)) ∙ ap (λ (y : Extent). y .skips) same in
         record {
           instructions = left .count ∙ ap length skips;
           lines = ap (λ (y : Extent). y .lines) same;
           within = w;
+          clean = c;
           table = left .stands ∙ ap (λ (ks : List ℕ). pour first ks old) skips;
         }
 
-    pub block-none : n ≤ 0 → a ≤ length g → Counts g first old (lengthOf k a) x table
+    pub block-none : n ≤ 0 → a ≤ length g → Clean aGuide (drop a g) → Counts g first old (lengthOf k a) x table
     block-none h = let e : n ≡ 0 = omega arith in ended (count-none n (linesAt g a) e)
 
-    pub block-ends : (h : Here) → Reads g a h → beginsBy (h .role) ≡ false → a ≤ length g → Counts g first old (lengthOf k a) x table
-    block-ends h r v = ended (count-ends n (linesAt g a) (ap beginsBy (sym (r .role)) ∙ v))
+    pub block-ends : (role : Role) (m : ℕ) → Reads g a role m → beginsBy role ≡ false → a ≤ length g → Clean aGuide (drop a g) → Counts g first old (lengthOf k a) x table
+    block-ends role m r v = ended (count-ends n (linesAt g a) (ap beginsBy (sym (r .role)) ∙ v))
 
-    pub block-more : (h : Here) (s : Length) (new : List ℕ) → 0 < n → Reads g a h → beginsBy (h .role) ≡ true
-        → Counts g (first + k) table s (statementLength (ifBy (h .role)) (blockLength (n - 1)) (linesAt g (h .next))) new
+    pub block-more : (role : Role) (m : ℕ) (s : Length) (new : List ℕ) → 0 < n → Reads g a role m → beginsBy role ≡ true
+        → Counts g (first + k) table s (statementLength (ifBy role) (blockLength (n - 1)) (linesAt g m)) new
         → Left first old (k + s .instructions) new (blockLength (n - 1) (linesAt g (s .end))) x
-    block-more h s new l r v e =
+    block-more role m s new l r v e =
         let f = blockLength (n - 1) in
-        let y = statementLength (ifBy (h .role)) f (linesAt g (h .next)) in
+        let y = statementLength (ifBy role) f (linesAt g m) in
         let rest = f (y .lines) in
         record {
           before = left .before ++ y .skips;
@@ -137,57 +139,59 @@ module _ (g : List ℕ) (first : ℕ) (old : List ℕ) where
 
 -- ---- the skip of an if: t is its true block, and last the line where that ends
 
-module _ (g : List ℕ) (place : ℕ) (old mid : List ℕ) (t : Length) (x : Extent) (e : Counts g place old t x mid) (last : Here) (r : Reads g (t .end) last) where
-  turns : (w : Bool) → elseBy (last .role) ≡ w → atElse (x .lines) ≡ w
+module _ (g : List ℕ) (place : ℕ) (old mid : List ℕ) (t : Length) (x : Extent) (e : Counts g place old t x mid) (last : Role) (m : ℕ) (r : Reads g (t .end) last m) where
+  turns : (w : Bool) → elseBy last ≡ w → atElse (x .lines) ≡ w
   turns w h = ap atElse (sym (e .lines)) ∙ ap elseBy (sym (r .role)) ∙ h
 
-  skip-is : (w : Bool) → elseBy (last .role) ≡ w → t .instructions + oneIf w ≡ skipOver x
+  skip-is : (w : Bool) → elseBy last ≡ w → t .instructions + oneIf w ≡ skipOver x
   unfolding skipOver
   skip-is w h = rw (turns w h) (ap (λ (n : ℕ). n + oneIf w) (e .instructions))
 
   -- the lines behind its last one
-  lines-behind : linesAt g (last .next) ≡ drop 1 (x .lines)
+  lines-behind : linesAt g m ≡ drop 1 (x .lines)
   lines-behind = r .rest ∙ ap (drop 1) (e .lines)
 
 -- ---- the statement whose line has the role, and the lines behind it
 
 module _ (g : List ℕ) (first : ℕ) (old : List ℕ) (role : Role) (f : Counter) (a : ℕ) where
-  pub plain-length : (new : List ℕ) → ifBy role ≡ false → a ≤ length g → new ≡ pour first (0 ∷ []) old
+  pub plain-length : (new : List ℕ) → ifBy role ≡ false → a ≤ length g → Clean aGuide (drop a g) → new ≡ pour first (0 ∷ []) old
       → Counts g first old (lengthOf 1 a) (statementLength (ifBy role) f (linesAt g a)) new
   unfolding statementLength
-  plain-length new v w s = rw v (record { instructions = refl; lines = refl; within = w; table = s })
+  plain-length new v w c s = rw v (record { instructions = refl; lines = refl; within = w; clean = c; table = s })
 
-  module _ (v : ifBy role ≡ true) (t : Length) (mid : List ℕ) (e : Counts g (first + 1) old t (f (linesAt g a)) mid) (last : Here) (r : Reads g (t .end) last) where
-    if-is : (w : Bool) → elseBy (last .role) ≡ w → ifWith w f (f (linesAt g a)) ≡ statementLength (ifBy role) f (linesAt g a)
+  module _ (v : ifBy role ≡ true) (t : Length) (mid : List ℕ) (e : Counts g (first + 1) old t (f (linesAt g a)) mid) (last : Role) (m : ℕ) (r : Reads g (t .end) last m) where
+    if-is : (w : Bool) → elseBy last ≡ w → ifWith w f (f (linesAt g a)) ≡ statementLength (ifBy role) f (linesAt g a)
     unfolding statementLength
-    if-is w h = rw (v, turns g (first + 1) old mid t (f (linesAt g a)) e last r w h)
+    if-is w h = rw (v, turns g (first + 1) old mid t (f (linesAt g a)) e last m r w h)
 
-    pub if-closed : elseBy (last .role) ≡ false → (new : List ℕ) → new ≡ pour first (t .instructions ∷ []) mid
-        → Counts g first old (lengthOf (t .instructions + 1) (last .next)) (statementLength (ifBy role) f (linesAt g a)) new
+    pub if-closed : elseBy last ≡ false → (new : List ℕ) → new ≡ pour first (t .instructions ∷ []) mid
+        → Counts g first old (lengthOf (t .instructions + 1) m) (statementLength (ifBy role) f (linesAt g a)) new
     if-closed h new s =
-        let skip = skip-is g (first + 1) old mid t (f (linesAt g a)) e last r false h in
-        subst (λ (x : Extent). Counts g first old (lengthOf (t .instructions + 1) (last .next)) x new) (if-is false h) (record {
+        let skip = skip-is g (first + 1) old mid t (f (linesAt g a)) e last m r false h in
+        subst (λ (x : Extent). Counts g first old (lengthOf (t .instructions + 1) m) x new) (if-is false h) (record {
           instructions = omega (arith, e .instructions);
-          lines = lines-behind g (first + 1) old mid t (f (linesAt g a)) e last r;
+          lines = lines-behind g (first + 1) old mid t (f (linesAt g a)) e last m r;
           within = r .within;
+          clean = r .clean;
           table = stored first (f (linesAt g a) .skips) old refl (e .table) s (omega (arith, skip));
         })
 
     -- o is its else block, and fi the line where that ends
-    pub if-turned : elseBy (last .role) ≡ true → (o : Length) (below : List ℕ) → Counts g (first + 1 + t .instructions + 1) mid o (f (linesAt g (last .next))) below
-        → (fi : Here) → Reads g (o .end) fi → (inner new : List ℕ) → inner ≡ pour (first + 1 + t .instructions) (o .instructions ∷ []) below
+    pub if-turned : elseBy last ≡ true → (o : Length) (below : List ℕ) → Counts g (first + 1 + t .instructions + 1) mid o (f (linesAt g m)) below
+        → (fi : Role) (z : ℕ) → Reads g (o .end) fi z → (inner new : List ℕ) → inner ≡ pour (first + 1 + t .instructions) (o .instructions ∷ []) below
         → new ≡ pour first ((t .instructions + 1) ∷ []) inner
-        → Counts g first old (lengthOf (t .instructions + o .instructions + 2) (fi .next)) (statementLength (ifBy role) f (linesAt g a)) new
-    if-turned h o below k fi q inner new m s =
+        → Counts g first old (lengthOf (t .instructions + o .instructions + 2) z) (statementLength (ifBy role) f (linesAt g a)) new
+    if-turned h o below k fi z q inner new i s =
         let x = f (linesAt g a) in
         let place = first + 1 + t .instructions + 1 in
-        let other = subst (λ (ls : List Line). Counts g place mid o (f ls) below) (lines-behind g (first + 1) old mid t x e last r) k in
+        let other = subst (λ (ls : List Line). Counts g place mid o (f ls) below) (lines-behind g (first + 1) old mid t x e last m r) k in
         let y = f (drop 1 (x .lines)) in
-        let skip = skip-is g (first + 1) old mid t x e last r true h in
-        let goto = stored (first + 1 + t .instructions) (y .skips) mid refl (other .table) m (other .instructions) in
-        subst (λ (x : Extent). Counts g first old (lengthOf (t .instructions + o .instructions + 2) (fi .next)) x new) (if-is true h) (record {
+        let skip = skip-is g (first + 1) old mid t x e last m r true h in
+        let goto = stored (first + 1 + t .instructions) (y .skips) mid refl (other .table) i (other .instructions) in
+        subst (λ (x : Extent). Counts g first old (lengthOf (t .instructions + o .instructions + 2) z) x new) (if-is true h) (record {
           instructions = omega (arith, e .instructions, other .instructions, length-append (x .skips) (gotoOver y));
-          lines = lines-behind g place mid below o _ other fi q;
+          lines = lines-behind g place mid below o _ other fi z q;
           within = q .within;
+          clean = q .clean;
           table = stored first (x .skips ++ gotoOver y) old refl (both (first + 1) (x .skips) (gotoOver y) old (e .instructions) (e .table) goto) s skip;
         })

@@ -18,7 +18,7 @@ use Rattle.plate.specs.Writing.{instructionBits, instructionsBits}
 use Rattle.guide.specs.declared.Role.{Role}
 use Rattle.guide.specs.declared.Role.the-variants.{Statement, If, Else, Fi, Nothing}
 use Rattle.guide.specs.declared.Here.{Here}
-use Rattle.guide.specs.Lines.{roleOf, firstRole, inBlock, bodyLines, linesAt, lineText, Reads}
+use Rattle.guide.specs.Lines.{roleOf, firstRole, inBlock, bodyLines, linesAt, lineText, ReadsLine}
 use Rattle.guide.proofs.Role.{the-type}
 use Rattle.translate.specs.LineCode.{countBy, lineCode, linesCode}
 
@@ -55,10 +55,10 @@ module _ (c : Phrases) where
   bits-append (i ∷ is) js = rw (bits-append is js, append-assoc (instructionBits c i) (instructionsBits c is) (instructionsBits c js))
 
   -- from the instruction i on
-  module _ (table : List ℕ) (i : ℕ) (g : List ℕ) (a : ℕ) (h : Here) (r : Reads g a h) where
+  module _ (table : List ℕ) (i : ℕ) (g : List ℕ) (a : ℕ) (h : Here) (r : ReadsLine g a h) where
     pub bits-end : h .role ≡ Nothing → instructionsBits c (linesCode (drop i table) (linesAt g a)) ≡ []
     unfolding linesAt linesCode instructionsBits
-    bits-end e = ap (λ (ls : List Line). instructionsBits c (linesCode (drop i table) ls)) (body-none _ (sym (r .role) ∙ e))
+    bits-end e = ap (λ (ls : List Line). instructionsBits c (linesCode (drop i table) ls)) (body-none _ (sym (r .reads .role) ∙ e))
 
     -- its skip is read from the table, and it is so many instructions
     pub bits-next : (skip n : ℕ) → skip ≡ getD table i 0 → n ≡ countBy (h .role) → inBlock (h .role) ≡ true

@@ -5,6 +5,8 @@ use mathlib.Core.List.{List, [], _∷_, _++_}
 use mathlib.Core.Bool.{Bool, true, false}
 use lib.ListN.{length, drop}
 use Rattle.output.specs.Pour.{pour}
+use Rattle.lines.specs.declared.Form.the-variants.{Guide as aGuide}
+use Rattle.lines.specs.Clean.{Clean}
 use Rattle.lines.specs.Line.{Line}
 use Rattle.guide.specs.declared.Role.{Role}
 use Rattle.guide.specs.declared.Role.the-variants.{Statement, If, Else, Fi, Nothing}
@@ -77,9 +79,10 @@ blockLength (suc n) ls = blockWith (beginsBy (firstRole ls)) (blockLength n) ls
 -- ---- what the code answers, and what it leaves in the table of skips
 
 -- r is what x is, the lines by their place in the guide's text; the table had the numbers `old`, and in `new` the skips of x stand from the
--- entry `first` on
+-- entry `first` on. No line from its end on is a fault
 pub record Counts (g : List ℕ) (first : ℕ) (old : List ℕ) (r : Length) (x : Extent) (new : List ℕ) : Type 0 where
   pub instructions : r .instructions ≡ length (x .skips)
   pub lines : linesAt g (r .end) ≡ x .lines
   pub within : r .end ≤ length g
+  pub clean : Clean aGuide (drop (r .end) g)
   pub table : new ≡ pour first (x .skips) old

@@ -12,6 +12,7 @@ ghost use Rattle.phrases.specs.Lookup.{phrasesIn};
 ghost use Rattle.phrases.specs.Index.{Listed};
 ghost use Rattle.lines.specs.declared.Form.the-variants.{Guide as aGuide};
 ghost use Rattle.lines.specs.Line.{lineOf};
+ghost use Rattle.lines.specs.Clean.{Clean};
 ghost use Rattle.guide.specs.Lines.{linesAt, lineText, Stands};
 ghost use Rattle.plate.specs.Writing.{instructionsBits};
 ghost use Rattle.translate.specs.LineCode.{countBy, lineCode, linesCode};
@@ -63,7 +64,7 @@ pub fn put_instructions(
     book: &[u8],
     own: usize,
 ) -> usize
-    requires { ⌜ (length (now out) ≤ 2953) × Listed (now index) (now book) (now guide) own ⌝ }
+    requires { ⌜ (length (now out) ≤ 2953) × Listed (now index) (now book) (now guide) own × Clean aGuide (now guide) ⌝ }
     ensures { λ r. ⌜ (r, bytesBits (now (out .exit))) ≡ poured at (instructionsBits (phrasesIn (now (book .entry)) (now (guide .entry)) own) (linesCode (now (skips .entry)) (linesAt (now (guide .entry)) 0))) (bytesBits (now (out .entry))) ⌝ }
 {
     let mut end = at;

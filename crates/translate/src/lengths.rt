@@ -1,10 +1,11 @@
 // The length of blocks in instructions, and the skips of the instructions in them.
 use crate::table::store;
-use guide::Here;
 use guide::Role;
 ghost use mathlib.Core.Path.{_≡_};
 ghost use Prim.Native.Nat.{_+_, _≤_, _<_};
-ghost use lib.ListN.{length};
+ghost use lib.ListN.{length, drop};
+ghost use Rattle.lines.specs.declared.Form.the-variants.{Guide as aGuide};
+ghost use Rattle.lines.specs.Clean.{Clean};
 ghost use Rattle.guide.specs.Lines.{linesAt};
 ghost use Rattle.translate.specs.Lengths.{ifBy, statementLength, blockLength, Counts};
 
@@ -28,7 +29,7 @@ fn is_if(role: Role) -> bool
 
 // The block that begins at a; `lines` is more than its lines. The skips of its instructions are stored from the number `first` on.
 pub fn block_length(guide: &[u8], lines: usize, a: usize, skips: &mut [u16], first: usize) -> Length
-    requires { ⌜ (first ≤ a) × (a ≤ length (now guide)) × (length (now guide) ≤ 16384) ⌝ }
+    requires { ⌜ (first ≤ a) × (a ≤ length (now guide)) × (length (now guide) ≤ 16384) × Clean aGuide (drop a (now guide)) ⌝ }
     ensures { λ r. ⌜ Counts (now (guide .entry)) first (now (skips .entry)) r (blockLength lines (linesAt (now (guide .entry)) a)) (now (skips .exit)) ⌝ }
     ensures { λ r. ⌜ a + r .instructions ≤ r .end ⌝ }
 {
@@ -37,10 +38,10 @@ pub fn block_length(guide: &[u8], lines: usize, a: usize, skips: &mut [u16], fir
     let mut at = a;
     while 0 < left {
         left -= 1;
-        let h = guide::line_at(guide, at);
+        let h = guide::role_at(guide, at);
         let role = h.role;
         if guide::begins(role) {
-            let s = statement_length(guide, left, h, skips, first + instructions);
+            let s = statement_length(guide, left, role, h.next, skips, first + instructions);
             instructions += s.instructions;
             at = s.end;
         } else {
@@ -56,22 +57,28 @@ pub fn block_length(guide: &[u8], lines: usize, a: usize, skips: &mut [u16], fir
     }
 }
 
-// The statement or the if whose line is h: an if goes up to the place behind its fi. Its first instruction has the number `first`.
-fn statement_length(guide: &[u8], left: usize, h: Here, skips: &mut [u16], first: usize) -> Length
-    requires { ⌜ (first < h .next) × (h .next ≤ length (now guide)) × (length (now guide) ≤ 16384) ⌝ }
-    ensures { λ r. ⌜ Counts (now (guide .entry)) first (now (skips .entry)) r (statementLength (ifBy (h .role)) (blockLength left) (linesAt (now (guide .entry)) (h .next))) (now (skips .exit)) ⌝ }
-    ensures { λ r. ⌜ h .next + r .instructions ≤ r .end + 1 ⌝ }
+// The statement or the if whose line has this role, the next line being at `next`: an if goes up to the place behind its fi. Its first
+// instruction has the number `first`.
+fn statement_length(
+    guide: &[u8],
+    left: usize,
+    role: Role,
+    next: usize,
+    skips: &mut [u16],
+    first: usize,
+) -> Length
+    requires { ⌜ (first < next) × (next ≤ length (now guide)) × (length (now guide) ≤ 16384) × Clean aGuide (drop next (now guide)) ⌝ }
+    ensures { λ r. ⌜ Counts (now (guide .entry)) first (now (skips .entry)) r (statementLength (ifBy role) (blockLength left) (linesAt (now (guide .entry)) next)) (now (skips .exit)) ⌝ }
+    ensures { λ r. ⌜ next + r .instructions ≤ r .end + 1 ⌝ }
 {
-    let role = h.role;
-    let next = h.next;
     if is_if(role) {
         let t = block_length(guide, left, next, skips, first + 1);
-        let last = guide::line_at(guide, t.end);
-        let role = last.role;
-        if guide::is_else(role) {
+        let last = guide::role_at(guide, t.end);
+        let other = last.role;
+        if guide::is_else(other) {
             let goto = first + 1 + t.instructions;
             let e = block_length(guide, left, last.next, skips, goto + 1);
-            let fi = guide::line_at(guide, e.end);
+            let fi = guide::role_at(guide, e.end);
             store(skips, goto, e.instructions);
             store(skips, first, t.instructions + 1);
             return Length {

@@ -11,6 +11,8 @@ ghost use Rattle.output.specs.Pour.{poured};
 ghost use Rattle.bits.specs.Bits.{bytesBits, filled};
 ghost use Rattle.phrases.specs.Lookup.{bookTexts};
 ghost use Rattle.phrases.specs.Index.{Listed};
+ghost use Rattle.lines.specs.declared.Form.the-variants.{Guide as aGuide};
+ghost use Rattle.lines.specs.Clean.{Clean};
 ghost use Rattle.plate.specs.Writing.{programBits};
 ghost use Rattle.writer.specs.Plates.{lentPlate};
 ghost use Rattle.translate.specs.LineCode.{skipTable, programIn};
@@ -25,7 +27,7 @@ fn produce(
     own: usize,
     instructions: usize,
 ) -> usize
-    requires { ⌜ (length (now out) ≤ 2953) × Listed (now index) (now book) (now guide) own × (now skips ≡ skipTable (now guide)) × (instructions ≡ length (programIn (now guide) own .instructions)) ⌝ }
+    requires { ⌜ (length (now out) ≤ 2953) × Listed (now index) (now book) (now guide) own × (now skips ≡ skipTable (now guide)) × (instructions ≡ length (programIn (now guide) own .instructions)) × Clean aGuide (now guide) ⌝ }
     ensures { λ r. ⌜ (r, bytesBits (now (out .exit))) ≡ poured 0 (filled (programBits (bookTexts (now (book .entry))) (programIn (now (guide .entry)) own))) (bytesBits (now (out .entry))) ⌝ }
 {
     let mut end = writer::put_front(out, guide, own, instructions);
@@ -42,7 +44,7 @@ pub fn write(
     instructions: usize,
     plate: &mut [u8],
 ) -> Written
-    requires { ⌜ (length (now guide) ≤ 16384) × Listed (now index) (now book) (now guide) own × (instructions ≡ length (programIn (now guide) own .instructions)) ⌝ }
+    requires { ⌜ (length (now guide) ≤ 16384) × Listed (now index) (now book) (now guide) own × (instructions ≡ length (programIn (now guide) own .instructions)) × Clean aGuide (now guide) ⌝ }
     ensures { λ r. ⌜ (writtenAnswer r, now (plate .exit)) ≡ lentPlate (bookTexts (now (book .entry))) (programIn (now (guide .entry)) own) (now (plate .entry)) ⌝ }
 {
     let mut skips = [0u16; 512];

@@ -11,7 +11,8 @@ use Rattle.transcript.specs.Machine.{machineState}
 use Rattle.lines.specs.declared.Form.the-variants.{Guide as aGuide}
 use Rattle.lines.specs.Line.{Line, lineOf}
 use Rattle.guide.specs.declared.Here.{Here}
-use Rattle.guide.specs.Lines.{firstRole, beginsBy, elseBy, linesAt, pass, lineText, Reads}
+use Rattle.guide.specs.declared.Role.{Role}
+use Rattle.guide.specs.Lines.{firstRole, beginsBy, elseBy, linesAt, pass, lineText, Reads, ReadsLine}
 use Rattle.guide.proofs.Reading.{begins-first}
 use Rattle.walk.specs.declared.Walked.{Walked}
 use Rattle.walk.specs.Descend.{Left, Walker, here, next, atElse, leaveTrue, leaveElse, elseBlock, walkIf, statementWith, blockWith, descend}
@@ -43,23 +44,23 @@ module _ (n : ℕ) (s : State) (ls : List Line) where
 
 -- ---- behind the blocks of an if
 
-module _ (g : List ℕ) (a : ℕ) (h : Here) (r : Reads g a h) where
-  at-else : {v : Bool} → elseBy (h .role) ≡ v → atElse (linesAt g a) ≡ v
+module _ (g : List ℕ) (a : ℕ) (role : Role) (n : ℕ) (r : Reads g a role n) where
+  at-else : {v : Bool} → elseBy role ≡ v → atElse (linesAt g a) ≡ v
   at-else e = ap elseBy (sym (r .role)) ∙ e
 
   -- the else block is passed over
-  pub leave-turned : (p : ℕ) (f : Here) (s t : State) → elseBy (h .role) ≡ true → linesAt g p ≡ pass 0 (linesAt g (h .next)) → Reads g p f
-      → t ≡ step s → here t (linesAt g (f .next)) ≡ leaveTrue s (linesAt g a)
+  pub leave-turned : (p : ℕ) (other : Role) (m : ℕ) (s t : State) → elseBy role ≡ true → linesAt g p ≡ pass 0 (linesAt g n) → Reads g p other m
+      → t ≡ step s → here t (linesAt g m) ≡ leaveTrue s (linesAt g a)
   unfolding leaveTrue
-  leave-turned p f s t v e q c =
-      let behind : linesAt g (f .next) ≡ drop 1 (pass 0 (drop 1 (linesAt g a))) = q .rest ∙ ap (drop 1) (e ∙ ap (pass 0) (r .rest)) in
+  leave-turned p other m s t v e q c =
+      let behind : linesAt g m ≡ drop 1 (pass 0 (drop 1 (linesAt g a))) = q .rest ∙ ap (drop 1) (e ∙ ap (pass 0) (r .rest)) in
       rw (at-else v, behind, c) refl
 
-  pub leave-closed : (s : State) → elseBy (h .role) ≡ false → here s (linesAt g (h .next)) ≡ leaveTrue s (linesAt g a)
+  pub leave-closed : (s : State) → elseBy role ≡ false → here s (linesAt g n) ≡ leaveTrue s (linesAt g a)
   unfolding leaveTrue
   leave-closed s v = rw (at-else v, r .rest) refl
 
-  pub leave-second : (s : State) → here s (linesAt g (h .next)) ≡ leaveElse s (linesAt g a)
+  pub leave-second : (s : State) → here s (linesAt g n) ≡ leaveElse s (linesAt g a)
   unfolding leaveElse
   leave-second s = rw (r .rest) refl
 
@@ -77,18 +78,18 @@ module _ (g : List ℕ) (answers : List ℤ) (at : ℕ) (out : List ℕ) where
       → Leaves g answers w rs o at (descend n s (linesAt g a)) out
   block-none n a s w rs o e f = leaves-as g answers w rs o at _ out f _ (descend-none n s (linesAt g a) e)
 
-  pub block-ends : (n a : ℕ) (s : State) (h : Here) (w : Walked) (rs : List ℤ) (o : List ℕ) → Reads g a h → beginsBy (h .role) ≡ false
+  pub block-ends : (n a : ℕ) (s : State) (h : Here) (w : Walked) (rs : List ℤ) (o : List ℕ) → ReadsLine g a h → beginsBy (h .role) ≡ false
       → Leaves g answers w rs o at (here s (linesAt g a)) out → Leaves g answers w rs o at (descend n s (linesAt g a)) out
-  block-ends n a s h w rs o r v f = leaves-as g answers w rs o at _ out f _ (descend-ends n s (linesAt g a) (ap beginsBy (sym (r .role)) ∙ v))
+  block-ends n a s h w rs o r v f = leaves-as g answers w rs o at _ out f _ (descend-ends n s (linesAt g a) (ap beginsBy (sym (r .reads .role)) ∙ v))
 
   -- a statement begins at a, and its line is h
-  module _ (n a : ℕ) (s : State) (h : Here) (r : Reads g a h) (v : beginsBy (h .role) ≡ true) (e : n ≡ 0 → ⊥) (w : Walked) (rs : List ℤ) (o : List ℕ)
+  module _ (n a : ℕ) (s : State) (h : Here) (r : ReadsLine g a h) (v : beginsBy (h .role) ≡ true) (e : n ≡ 0 → ⊥) (w : Walked) (rs : List ℤ) (o : List ℕ)
       (f : Leaves g answers w rs o at (statementWith (descend (n - 1)) s (lineOf aGuide (lineText g h) ∷ linesAt g (h .next))) out) where
     begun : next (statementWith (descend (n - 1)) s (lineOf aGuide (lineText g h) ∷ linesAt g (h .next))) (descend (n - 1))
         ≡ descend n s (linesAt g a)
     begun =
         ap (λ (ls : List Line). next (statementWith (descend (n - 1)) s ls) (descend (n - 1))) (sym (begins-first g a h r v .lines))
-        ∙ descend-more n s (linesAt g a) e (ap beginsBy (sym (r .role)) ∙ v)
+        ∙ descend-more n s (linesAt g a) e (ap beginsBy (sym (r .reads .role)) ∙ v)
 
     pub block-ended : isEnd (w .left .outcome) ≡ false → Leaves g answers w rs o at (descend n s (linesAt g a)) out
     block-ended i = leaves-as g answers w rs o at _ out (leaves-ended g answers w rs o at _ out f (descend (n - 1)) i) _ begun
@@ -117,16 +118,16 @@ module _ (g : List ℕ) (answers : List ℤ) (at : ℕ) (out : List ℕ) where
 
   -- ---- the else block: the true block has been passed over, and h is the first line from its end p on
 
-  module _ (n a p : ℕ) (s : State) (h : Here) (e : linesAt g p ≡ pass 0 (linesAt g a)) (r : Reads g p h) where
-    pub no-else : (w : Walked) (rs : List ℤ) (o : List ℕ) → elseBy (h .role) ≡ false → Leaves g answers w rs o at (here s (linesAt g (h .next))) out
+  module _ (n a p : ℕ) (s : State) (role : Role) (place : ℕ) (e : linesAt g p ≡ pass 0 (linesAt g a)) (r : Reads g p role place) where
+    pub no-else : (w : Walked) (rs : List ℤ) (o : List ℕ) → elseBy role ≡ false → Leaves g answers w rs o at (here s (linesAt g place)) out
         → Leaves g answers w rs o at (walkIf false (descend n) s (linesAt g a)) out
     unfolding walkIf elseBlock
-    no-else w rs o v f = leaves-as g answers w rs o at _ out f _ (rw (← e, at-else g p h r v, r .rest) refl)
+    no-else w rs o v f = leaves-as g answers w rs o at _ out f _ (rw (← e, at-else g p role place r v, r .rest) refl)
 
-    module _ (v : elseBy (h .role) ≡ true) (w : Walked) (rs : List ℤ) (o : List ℕ) (f : Leaves g answers w rs o at (descend n s (linesAt g (h .next))) out) where
-      turned : next (descend n s (linesAt g (h .next))) leaveElse ≡ walkIf false (descend n) s (linesAt g a)
+    module _ (v : elseBy role ≡ true) (w : Walked) (rs : List ℤ) (o : List ℕ) (f : Leaves g answers w rs o at (descend n s (linesAt g place)) out) where
+      turned : next (descend n s (linesAt g place)) leaveElse ≡ walkIf false (descend n) s (linesAt g a)
       unfolding walkIf elseBlock
-      turned = rw (← e, at-else g p h r v, r .rest) refl
+      turned = rw (← e, at-else g p role place r v, r .rest) refl
 
       pub else-ended : isEnd (w .left .outcome) ≡ false → Leaves g answers w rs o at (walkIf false (descend n) s (linesAt g a)) out
       else-ended i = leaves-as g answers w rs o at _ out (leaves-ended g answers w rs o at _ out f leaveElse i) _ turned

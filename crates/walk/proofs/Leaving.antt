@@ -4,7 +4,7 @@ use native.Mathlib.Omega.{arith}
 use mathlib.Core.Path.{_≡_, refl, sym, ap, _∙_, subst}
 use mathlib.Core.List.{List, [], _∷_, append-nil}
 use mathlib.Core.Bool.{true, false, true≢false, false≢true}
-use lib.ListN.{length}
+use lib.ListN.{length, drop}
 use lib.IntN.{ℤ}
 use Rattle.causes.specs.Causes.{outcomeNumber}
 use Rattle.causes.specs.declared.Outcome.{Outcome}
@@ -16,11 +16,13 @@ use Rattle.transcript.specs.Perform.{Ending, goesOn, verdict, waits, outside, a
 use Rattle.transcript.specs.Machine.{machineState, cleared, clearedEnding, laid, performed}
 use Rattle.transcript.proofs.Lay.{lay-here}
 use Rattle.transcript.proofs.Follow.{lay-outcome, lay-machine, lay-ended, lay-goes}
+use Rattle.lines.specs.declared.Form.the-variants.{Guide as aGuide}
 use Rattle.lines.specs.Line.{Line}
+use Rattle.lines.specs.Clean.{Clean}
 use Rattle.guide.specs.Lines.{linesAt}
 use Rattle.walk.specs.declared.Walked.{Walked}
 use Rattle.walk.specs.Descend.{Left, Walker, here, follow, next}
-use Rattle.walk.specs.Leaves.{Leaves}
+use Rattle.walk.specs.Leaves.{Leaves, Paced}
 use Rattle.walk.specs.Says.{isEnd}
 use Rattle.walk.proofs.Adding.{Adds}
 
@@ -55,6 +57,12 @@ follow-here (goesOn s) ls = refl
 follow-here (verdict s) ls = refl
 follow-here (waits s) ls = refl
 follow-here (outside s) ls = refl
+
+-- it goes on at a place
+pub paced-here : (g : List ℕ) (w : Walked) (place : ℕ) → w .place ≡ place → w .left .machine .steps ≤ place → place ≤ length g → Clean aGuide (drop place g)
+    → Paced g w
+paced-here g w place e s l c =
+    record { steps = omega arith; within = omega arith; clean = subst (λ (n : ℕ). Clean aGuide (drop n g)) (sym e) c }
 
 module _ (g : List ℕ) (answers : List ℤ) where
   -- it goes on, with nothing written

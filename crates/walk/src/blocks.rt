@@ -13,9 +13,10 @@ ghost use mathlib.Core.Path.{_≡_};
 ghost use mathlib.Core.Bool.{true, false};
 ghost use mathlib.Core.List.{_∷_};
 ghost use Prim.Native.Nat.{_≤_, _<_};
-ghost use lib.ListN.{length};
+ghost use lib.ListN.{length, drop};
 ghost use Rattle.lines.specs.declared.Form.the-variants.{Guide as aGuide};
 ghost use Rattle.lines.specs.Line.{lineOf};
+ghost use Rattle.lines.specs.Clean.{Clean};
 ghost use Rattle.transcript.specs.Machine.{machineState};
 ghost use Rattle.guide.specs.Lines.{beginsBy, linesAt, lineText, Stands};
 ghost use Rattle.walk.specs.Descend.{walkIf, statementWith, descend};
@@ -32,7 +33,7 @@ pub fn block(
     at: usize,
     begun: Machine,
 ) -> Walked
-    requires { ⌜ (a ≤ length (now guide)) × (begun .steps ≤ a) ⌝ }
+    requires { ⌜ (a ≤ length (now guide)) × (begun .steps ≤ a) × Clean aGuide (drop a (now guide)) ⌝ }
     ensures { λ w. ⌜ Leaves (now (guide .entry)) (now (answers .entry)) w (now (registers .exit)) (now (out .exit)) at (descend lines (machineState (now (registers .entry)) (now (answers .entry)) begun) (linesAt (now (guide .entry)) a)) (now (out .entry)) ⌝ }
     ensures { λ w. ⌜ Paced (now (guide .entry)) w ⌝ }
 {
@@ -72,7 +73,7 @@ fn statement(
     at: usize,
     m: Machine,
 ) -> Walked
-    requires { ⌜ Stands (now guide) h × (beginsBy (h .role) ≡ true) × (m .steps < h .next) ⌝ }
+    requires { ⌜ Stands (now guide) h × (beginsBy (h .role) ≡ true) × (m .steps < h .next) × Clean aGuide (drop (h .next) (now guide)) ⌝ }
     ensures { λ w. ⌜ Leaves (now (guide .entry)) (now (answers .entry)) w (now (registers .exit)) (now (out .exit)) at (statementWith (descend left) (machineState (now (registers .entry)) (now (answers .entry)) m) (lineOf aGuide (lineText (now (guide .entry)) h) ∷ linesAt (now (guide .entry)) (h .next))) (now (out .entry)) ⌝ }
     ensures { λ w. ⌜ Paced (now (guide .entry)) w ⌝ }
 {
@@ -104,7 +105,7 @@ fn true_block(
     at: usize,
     m: Machine,
 ) -> Walked
-    requires { ⌜ (a ≤ length (now guide)) × (m .steps ≤ a) ⌝ }
+    requires { ⌜ (a ≤ length (now guide)) × (m .steps ≤ a) × Clean aGuide (drop a (now guide)) ⌝ }
     ensures { λ w. ⌜ Leaves (now (guide .entry)) (now (answers .entry)) w (now (registers .exit)) (now (out .exit)) at (walkIf true (descend left) (machineState (now (registers .entry)) (now (answers .entry)) m) (linesAt (now (guide .entry)) a)) (now (out .entry)) ⌝ }
     ensures { λ w. ⌜ Paced (now (guide .entry)) w ⌝ }
 {
@@ -128,11 +129,11 @@ fn no_block(
     at: usize,
     m: Machine,
 ) -> Walked
-    requires { ⌜ (a ≤ length (now guide)) × (m .steps ≤ a) ⌝ }
+    requires { ⌜ (a ≤ length (now guide)) × (m .steps ≤ a) × Clean aGuide (drop a (now guide)) ⌝ }
     ensures { λ w. ⌜ Leaves (now (guide .entry)) (now (answers .entry)) w (now (registers .exit)) (now (out .exit)) at (walkIf false (descend left) (machineState (now (registers .entry)) (now (answers .entry)) m) (linesAt (now (guide .entry)) a)) (now (out .entry)) ⌝ }
     ensures { λ w. ⌜ Paced (now (guide .entry)) w ⌝ }
 {
-    let h = guide::line_at(guide, guide::pass_over(guide, a));
+    let h = guide::role_at(guide, guide::pass_over(guide, a));
     let role = h.role;
     if guide::is_else(role) {
         let w = block(guide, answers, registers, out, left, h.next, at, m);

@@ -6,9 +6,11 @@ use transcript::Performed;
 ghost use mathlib.Core.Path.{_≡_};
 ghost use mathlib.Core.List.{List};
 ghost use Prim.Native.Nat.{ℕ, _≤_};
-ghost use lib.ListN.{length};
+ghost use lib.ListN.{length, drop};
 ghost use lib.IntN.{ℤ};
 ghost use Rattle.transcript.specs.Machine.{machineState};
+ghost use Rattle.lines.specs.declared.Form.the-variants.{Guide as aGuide};
+ghost use Rattle.lines.specs.Clean.{Clean};
 ghost use Rattle.guide.specs.Lines.{linesAt};
 ghost use Rattle.walk.specs.Descend as descend;
 ghost use Rattle.walk.specs.Leaves.{Leaves, Paced};
@@ -42,14 +44,14 @@ pub fn here(m: Machine, end: usize, place: usize) -> Walked
 
 // Behind a true block that ends at a: with an else line one step, and the else block is passed over.
 pub fn leave_true(guide: &[u8], a: usize, end: usize, m: Machine) -> Walked
-    requires { ⌜ (a ≤ length (now guide)) × (m .steps ≤ a) ⌝ }
+    requires { ⌜ (a ≤ length (now guide)) × (m .steps ≤ a) × Clean aGuide (drop a (now guide)) ⌝ }
     ensures { λ r. ⌜ ((registers answers : List ℤ) (out : List ℕ) → Leaves (now (guide .entry)) answers r registers out end (descend.leaveTrue (machineState registers answers m) (linesAt (now (guide .entry)) a)) out) ⌝ }
     ensures { λ r. ⌜ Paced (now (guide .entry)) r ⌝ }
 {
-    let h = guide::line_at(guide, a);
+    let h = guide::role_at(guide, a);
     let role = h.role;
     if guide::is_else(role) {
-        let f = guide::line_at(guide, guide::pass_over(guide, h.next));
+        let f = guide::role_at(guide, guide::pass_over(guide, h.next));
         let n = transcript::stepped(m);
         return here(n, end, f.next);
     }
@@ -58,10 +60,10 @@ pub fn leave_true(guide: &[u8], a: usize, end: usize, m: Machine) -> Walked
 
 // Behind an else block that ends at a.
 pub fn leave_else(guide: &[u8], a: usize, end: usize, m: Machine) -> Walked
-    requires { ⌜ (a ≤ length (now guide)) × (m .steps ≤ a) ⌝ }
+    requires { ⌜ (a ≤ length (now guide)) × (m .steps ≤ a) × Clean aGuide (drop a (now guide)) ⌝ }
     ensures { λ r. ⌜ ((registers answers : List ℤ) (out : List ℕ) → Leaves (now (guide .entry)) answers r registers out end (descend.leaveElse (machineState registers answers m) (linesAt (now (guide .entry)) a)) out) ⌝ }
     ensures { λ r. ⌜ Paced (now (guide .entry)) r ⌝ }
 {
-    let h = guide::line_at(guide, a);
+    let h = guide::role_at(guide, a);
     here(m, end, h.next)
 }

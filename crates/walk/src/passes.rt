@@ -12,11 +12,14 @@ ghost use Rattle.causes.specs.Answers.{made, ended, lent, ranAnswer};
 ghost use Rattle.causes.specs.Causes.{outcomeNumber};
 ghost use Rattle.transcript.specs.Perform.{report};
 ghost use Rattle.transcript.specs.Machine.{laid, performed};
+ghost use Rattle.lines.specs.declared.Form.the-variants.{Guide as aGuide};
+ghost use Rattle.lines.specs.Clean.{Clean};
 ghost use Rattle.walk.specs.Descend.{walkText};
 ghost use Rattle.walk.specs.Rooms.{Numbers};
 
 // The walk over a guide's lines, with registers that are all 0 at first: the buffer takes as much of the transcript as it has room for.
 fn produce(guide: &[u8], answers: &[i32], out: &mut [u8]) -> Performed
+    requires { ⌜ Clean aGuide (now guide) ⌝ }
     ensures { λ r. ⌜ ((registers : List ℤ) × (performed registers (now (answers .entry)) r (now (out .exit)) ≡ laid 0 (walkText (now (guide .entry)) (now (answers .entry))) (now (out .entry)))) ⌝ }
 {
     let mut registers = [0i32; 32];
@@ -61,6 +64,7 @@ fn read_all(answers: &[i32])
 // The walk of an accepted guide. A buffer as long as the guide, with 14 bytes more for each answer, takes any transcript. Else the walk is
 // made on no buffer first, to learn the transcript's length; then 11, or the transcript is written.
 pub fn write(guide: &[u8], answers: &[i32], transcript: &mut [u8]) -> Ran
+    requires { ⌜ Clean aGuide (now guide) ⌝ }
     ensures { λ r. ⌜ (ranAnswer r, now (transcript .exit)) ≡ lent (made (report (walkText (now (guide .entry)) (now (answers .entry))))) (now (transcript .entry)) ⌝ }
 {
     if answers.len() <= 65536 {

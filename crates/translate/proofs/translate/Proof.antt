@@ -4,6 +4,7 @@ use mathlib.Core.Path.{sym, _∙_}
 use lib.Seq.{length-take-le}
 use borrow.Author.Needs.{needs}
 use Rattle.phrases.proofs.Answers.{book-few}
+use Rattle.guide.proofs.Accepted.{accepted-clean}
 use Rattle.translate.proofs.Whole.{few-bytes, few-own, own-there, counts, call-book, call-guide, call-translated}
 use Rattle.translate.proofs.translate.Statement.{statement}
 use Rattle.translate.proofs.translate.Tie as tie
@@ -63,6 +64,7 @@ write-requires c κs =
       few-bytes _ _ _ _ f,
       (n .before .before .before .check-book .ensures .1 _ (n .n .given .1), own-there _ _ _ _ f, few-own _ _ _ _ f),
       counts _ _ _ _ f,
+      accepted-clean _ _ _ _ f,
     )
 
 returns : tie.Need-returns

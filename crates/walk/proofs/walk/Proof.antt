@@ -4,6 +4,7 @@ use mathlib.Core.Path.{sym, _∙_}
 use lib.Seq.{length-take-le}
 use borrow.Author.Needs.{needs}
 use Rattle.phrases.proofs.Answers.{book-few}
+use Rattle.guide.proofs.Accepted.{accepted-clean}
 use Rattle.walk.proofs.Whole.{call-book, call-guide, call-walked}
 use Rattle.walk.proofs.walk.Statement.{statement}
 use Rattle.walk.proofs.walk.Tie as tie
@@ -41,7 +42,8 @@ enum-told : tie.Need-enum-told
 enum-told c = search needs
 
 write-requires : tie.Need-write-requires
-write-requires c κs = search needs
+write-requires c κs =
+    accepted-clean _ _ _ _ (sym (c .before .before .before .check .ensures) ∙ c .before .enum-told .given .1)
 
 returns : tie.Need-returns
 returns c =

@@ -5,6 +5,8 @@ use Prim.Native.Nat.{_≤_, _-_}
 use native.Mathlib.Omega.{arith}
 use mathlib.Core.Path.{refl}
 use lib.ListN.{length, drop}
+use Rattle.lines.specs.declared.Form.the-variants.{Guide as aGuide}
+use Rattle.lines.specs.Clean.{Clean}
 use Rattle.phrases.specs.Lookup.{phrasesIn}
 use Rattle.plate.specs.Writing.{instructionsBits}
 use Rattle.writer.proofs.Writes.{Left, begun, turned, done}
@@ -20,12 +22,13 @@ Inv-loop out₀ at guide skips index book own end₀ number₀ a₀ out end numb
     (instructionsBits (phrasesIn book guide own) (linesCode (drop number skips) (linesAt guide a))) out
     × (number ≤ a)
     × (a ≤ length guide)
+    × Clean aGuide (drop a guide)
 
 abbrev μ-loop : tie.MeasureT-loop
 μ-loop out₀ at guide skips index book own end₀ number₀ a₀ out end number a = length guide - a
 
 loop-holds : tie.Need-loop-holds Inv-loop μ-loop
-loop-holds c = (begun _ _ refl (search needs), search needs, search needs)
+loop-holds c = (begun _ _ refl (search needs), search needs, search needs, search needs)
 
 line-at-requires : tie.Need-line-at-requires Inv-loop μ-loop
 line-at-requires c κs = search needs
@@ -54,15 +57,15 @@ add-number c = omega (arith, c .count-of .ensures, at-most-one (c .before .befor
 
 loop-less : tie.Need-loop-less Inv-loop μ-loop
 loop-less c =
-    let f = c .before .before .before .before .before .before .before .line-at .ensures .first (in-block (c .before .before .before .before .before .before .before .line-at .result .role) (c .before .before .before .before .before .before .match .keys2)) .further in
+    let f = c .before .before .before .before .before .before .before .line-at .ensures .reads .further (in-block (c .before .before .before .before .before .before .before .line-at .result .role) (c .before .before .before .before .before .before .match .keys2)) in
     omega arith
 
 loop-again : tie.Need-loop-again Inv-loop μ-loop
 loop-again c =
     let r = c .before .before .before .before .before .before .before .line-at .result .role in
     let v = in-block r (c .before .before .before .before .before .before .match .keys2) in
-    let f = c .before .before .before .before .before .before .before .line-at .ensures .first v .further in
-    (turned (c .before .before .before .before .before .before .before .before .loop .inv .0) _ _ (bits-next _ (c .before .before .before .before .before .before .before .before .before .before .before .before .before .before .args .skips .now) (c .before .before .before .before .before .before .before .before .loop .number) _ _ _ (c .before .before .before .before .before .before .before .line-at .ensures) _ _ (c .before .before .before .before .before .skip-at .ensures) (c .count-of .ensures) v) (c .before .before .before .put-instruction .ensures) (c .before .before .before .before .before .before .before .before .before .before .before .before .before .before .pre .0), omega (arith, c .count-of .ensures, at-most-one r), search needs)
+    let f = c .before .before .before .before .before .before .before .line-at .ensures .reads .further v in
+    (turned (c .before .before .before .before .before .before .before .before .loop .inv .0) _ _ (bits-next _ (c .before .before .before .before .before .before .before .before .before .before .before .before .before .before .args .skips .now) (c .before .before .before .before .before .before .before .before .loop .number) _ _ _ (c .before .before .before .before .before .before .before .line-at .ensures) _ _ (c .before .before .before .before .before .skip-at .ensures) (c .count-of .ensures) v) (c .before .before .before .put-instruction .ensures) (c .before .before .before .before .before .before .before .before .before .before .before .before .before .before .pre .0), omega (arith, c .count-of .ensures, at-most-one r), search needs, c .before .before .before .before .before .before .before .line-at .ensures .reads .clean)
 
 pub put-instructions-spec : {M : Type 1} → statement M
 put-instructions-spec =

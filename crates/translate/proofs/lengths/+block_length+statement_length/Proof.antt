@@ -4,9 +4,11 @@ use borrow.Author.Needs.{needs}
 use Prim.Native.Nat.{ℕ, _*_, _+_, _<_, _≤_}
 use mathlib.Core.Path.{_≡_, sym, _∙_}
 use native.Mathlib.Omega.{arith}
-use lib.ListN.{length}
+use lib.ListN.{length, drop}
+use Rattle.lines.specs.declared.Form.the-variants.{Guide as aGuide}
+use Rattle.lines.specs.Clean.{Clean}
 use Rattle.guide.specs.Lines.{linesAt}
-use Rattle.guide.proofs.Reading.{begins-first, else-first}
+use Rattle.guide.proofs.Reading.{begins-further, else-further}
 use Rattle.translate.specs.Lengths.{blockLength}
 use Rattle.translate.proofs.Counting.{Left, begun, same-size, table-size, block-none, block-ends, block-more, plain-length, if-closed, if-turned}
 use borrow.Fn.Kinds.{In}
@@ -17,7 +19,7 @@ use Rattle.translate.proofs.lengths.+block_length+statement_length.Lts-
 use Rattle.translate.proofs.lengths.statement_length.Reads as statement-length
 use Rattle.translate.proofs.lengths.statement_length.Kinds as statement-length-kinds
 use Rattle.translate.proofs.lengths.+block_length+statement_length.Lts-statement_length as statement-length-lts
-use Rattle.guide.proofs.line_at.Reads as line-at-reads
+use Rattle.guide.proofs.role_at.Reads as role-at-reads
 use Rattle.guide.proofs.begins.Reads as begins-reads
 use Rattle.guide.proofs.is_else.Reads as is-else-reads
 use Rattle.translate.proofs.lengths.is_if.Reads as is-if-reads
@@ -61,8 +63,8 @@ statement-length-below t =
 
 abbrev block-length-calls : ℕ → block-length-lts.Claims
 block-length-calls t = (
-  line-at-reads.Asked,
-  line-at-reads.Learnt,
+  role-at-reads.Asked,
+  role-at-reads.Learnt,
   begins-reads.Asked,
   begins-reads.Learnt,
   statement-length-below t,
@@ -75,8 +77,8 @@ statement-length-calls t = (
   is-if-reads.Learnt,
   block-length-below t,
   block-length.Post,
-  line-at-reads.Asked,
-  line-at-reads.Learnt,
+  role-at-reads.Asked,
+  role-at-reads.Learnt,
   is-else-reads.Asked,
   is-else-reads.Learnt,
   store-reads.Asked,
@@ -89,53 +91,54 @@ block-length-Inv-loop guide lines a skips₀ first left₀ instructions₀ at₀
     × (a + instructions ≤ at)
     × (at ≤ length guide)
     × (left ≤ lines)
+    × Clean aGuide (drop at guide)
 
 abbrev block-length-μ-loop : block-length-lts.MeasureT-loop
 block-length-μ-loop guide lines a skips₀ first left₀ instructions₀ at₀ skips left instructions at = left
 
 block-length-loop-holds : (t : ℕ) → block-length-lts.Need-loop-holds (block-length-calls t) (block-length-at t) block-length.Post block-length-Inv-loop block-length-μ-loop
-block-length-loop-holds t c = (begun _ _ _, search needs, search needs, search needs)
+block-length-loop-holds t c = (begun _ _ _, search needs, search needs, search needs, search needs)
 
 block-length-statement-length-requires : (t : ℕ) → block-length-lts.Need-statement-length-requires (block-length-calls t) (block-length-at t) block-length.Post block-length-Inv-loop block-length-μ-loop
 block-length-statement-length-requires t c κs =
-    let k = begins-first _ _ _ (c .before .before .before .line-at .ensures) (sym (c .before .before .begins .ensures) ∙ c .before .if1 .taken) .further in
-    (search needs, (omega arith, search needs, search needs))
+    let k = begins-further _ _ _ _ (c .before .before .before .role-at .ensures) (sym (c .before .before .begins .ensures) ∙ c .before .if1 .taken) in
+    (search needs, (omega arith, search needs, search needs, c .before .before .before .role-at .ensures .clean))
 
 block-length-add-instructions : (t : ℕ) → block-length-lts.Need-add-instructions (block-length-calls t) (block-length-at t) block-length.Post block-length-Inv-loop block-length-μ-loop
 block-length-add-instructions t c =
-    let k = begins-first _ _ _ (c .before .before .before .before .before .before .before .line-at .ensures) (sym (c .before .before .before .before .before .before .begins .ensures) ∙ c .before .before .before .before .before .if1 .taken) .further in
+    let k = begins-further _ _ _ _ (c .before .before .before .before .before .before .before .role-at .ensures) (sym (c .before .before .before .before .before .before .begins .ensures) ∙ c .before .before .before .before .before .if1 .taken) in
     omega (arith, c .before .before .before .statement-length .ensures .1)
 
 block-length-loop-again : (t : ℕ) → block-length-lts.Need-loop-again (block-length-calls t) (block-length-at t) block-length.Post block-length-Inv-loop block-length-μ-loop
 block-length-loop-again t c =
     let v = sym (c .before .before .before .before .before .before .begins .ensures) ∙ c .before .before .before .before .before .if1 .taken in
-    let k = begins-first _ _ _ (c .before .before .before .before .before .before .before .line-at .ensures) v .further in
+    let k = begins-further _ _ _ _ (c .before .before .before .before .before .before .before .role-at .ensures) v in
     let n = c .before .before .before .statement-length .ensures .1 in
-    (block-more _ _ _ _ _ _ _ _ (c .before .before .before .before .before .before .before .before .before .loop .inv .0) _ _ _ (c .before .before .before .before .before .before .before .before .loop-test .taken) (c .before .before .before .before .before .before .before .line-at .ensures) v (c .before .before .before .statement-length .ensures .0), omega arith, omega arith, omega arith)
+    (block-more _ _ _ _ _ _ _ _ (c .before .before .before .before .before .before .before .before .before .loop .inv .0) _ _ _ _ (c .before .before .before .before .before .before .before .before .loop-test .taken) (c .before .before .before .before .before .before .before .role-at .ensures) v (c .before .before .before .statement-length .ensures .0), omega arith, omega arith, omega arith, c .before .before .before .statement-length .ensures .0 .clean)
 
 block-length-same-length : (t : ℕ) → block-length-lts.Need-same-length (block-length-calls t) (block-length-at t) block-length.Post block-length-Inv-loop block-length-μ-loop
 block-length-same-length t c = same-size (c .before .before .before .before .loop .inv .0)
 
 block-length-returns : (t : ℕ) → block-length-lts.Need-returns (block-length-calls t) (block-length-at t) block-length.Post block-length-Inv-loop block-length-μ-loop
-block-length-returns t c = (block-ends _ _ _ (c .before .before .before .before .loop .left) _ _ _ _ (c .before .before .before .before .loop .inv .0) _ (c .before .before .line-at .ensures) (sym (c .before .begins .ensures) ∙ c .if1 .left) (search needs), search needs)
+block-length-returns t c = (block-ends _ _ _ (c .before .before .before .before .loop .left) _ _ _ _ (c .before .before .before .before .loop .inv .0) _ _ (c .before .before .role-at .ensures) (sym (c .before .begins .ensures) ∙ c .if1 .left) (search needs) (search needs), search needs)
 
 block-length-same-length-2 : (t : ℕ) → block-length-lts.Need-same-length-2 (block-length-calls t) (block-length-at t) block-length.Post block-length-Inv-loop block-length-μ-loop
 block-length-same-length-2 t c = same-size (c .before .loop .inv .0)
 
 block-length-returns-2 : (t : ℕ) → block-length-lts.Need-returns-2 (block-length-calls t) (block-length-at t) block-length.Post block-length-Inv-loop block-length-μ-loop
-block-length-returns-2 t c = (block-none _ _ _ (c .before .loop .left) _ _ _ _ (c .before .loop .inv .0) (c .loop-test .left) (search needs), search needs)
+block-length-returns-2 t c = (block-none _ _ _ (c .before .loop .left) _ _ _ _ (c .before .loop .inv .0) (c .loop-test .left) (search needs) (search needs), search needs)
 
 statement-length-block-length-requires-2 : (t : ℕ) → statement-length-lts.Need-block-length-requires-2 (statement-length-calls t) (statement-length-at t) statement-length.Post
 statement-length-block-length-requires-2 t c κs =
-    let k = else-first _ _ _ (c .before .before .before .before .line-at .ensures) (sym (c .before .before .before .is-else .ensures) ∙ c .before .before .if2 .taken) .further in
-    (search needs, (omega (arith, c .before .before .before .before .before .before .before .block-length .ensures .1), search needs, search needs))
+    let k = else-further _ _ _ _ (c .before .before .before .before .role-at .ensures) (sym (c .before .before .before .is-else .ensures) ∙ c .before .before .if2 .taken) in
+    (search needs, (omega (arith, c .before .before .before .before .before .before .before .block-length .ensures .1), search needs, search needs, c .before .before .before .before .role-at .ensures .clean))
 
 statement-length-returns : (t : ℕ) → statement-length-lts.Need-returns (statement-length-calls t) (statement-length-at t) statement-length.Post
 statement-length-returns t c =
     let a = c .before .before .before .before .before .before .before .before .before .before .before .before .before .before .before .before .before .before .before .before .before .before .before .before .before .before .before .before .args in
     let w = sym (c .before .before .before .before .before .before .before .before .before .before .before .before .before .before .before .before .before .before .is-else .ensures) ∙ c .before .before .before .before .before .before .before .before .before .before .before .before .before .before .before .before .before .if2 .taken in
-    let k = else-first _ _ _ (c .before .before .before .before .before .before .before .before .before .before .before .before .before .before .before .before .before .before .before .line-at .ensures) w .further in
-    (if-turned _ _ _ (a .h .role) (blockLength (a .left)) (a .h .next) (sym (c .before .before .before .before .before .before .before .before .before .before .before .before .before .before .before .before .before .before .before .before .before .before .before .before .before .is-if .ensures) ∙ c .before .before .before .before .before .before .before .before .before .before .before .before .before .before .before .before .before .before .before .before .before .before .before .before .if1 .taken) _ _ (c .before .before .before .before .before .before .before .before .before .before .before .before .before .before .before .before .before .before .before .before .before .before .block-length .ensures .0) _ (c .before .before .before .before .before .before .before .before .before .before .before .before .before .before .before .before .before .before .before .line-at .ensures) w _ _ (c .before .before .before .before .before .before .before .before .before .before .before .before .before .before .block-length2 .ensures .0) _ (c .before .before .before .before .before .before .before .before .before .before .before .line-at2 .ensures) _ _ (c .before .before .before .before .before .before .before .before .before .store .ensures) (c .before .before .before .before .store2 .ensures), omega (arith, c .before .before .before .before .before .before .before .before .before .before .before .before .before .before .before .before .before .before .before .before .before .before .block-length .ensures .1, c .before .before .before .before .before .before .before .before .before .before .before .before .before .before .block-length2 .ensures .1, c .before .before .before .before .before .before .before .before .before .before .before .line-at2 .ensures .onward))
+    let k = else-further _ _ _ _ (c .before .before .before .before .before .before .before .before .before .before .before .before .before .before .before .before .before .before .before .role-at .ensures) w in
+    (if-turned _ _ _ (a .role) (blockLength (a .left)) (a .next) (sym (c .before .before .before .before .before .before .before .before .before .before .before .before .before .before .before .before .before .before .before .before .before .before .before .before .before .is-if .ensures) ∙ c .before .before .before .before .before .before .before .before .before .before .before .before .before .before .before .before .before .before .before .before .before .before .before .before .if1 .taken) _ _ (c .before .before .before .before .before .before .before .before .before .before .before .before .before .before .before .before .before .before .before .before .before .before .block-length .ensures .0) _ _ (c .before .before .before .before .before .before .before .before .before .before .before .before .before .before .before .before .before .before .before .role-at .ensures) w _ _ (c .before .before .before .before .before .before .before .before .before .before .before .before .before .before .block-length2 .ensures .0) _ _ (c .before .before .before .before .before .before .before .before .before .before .before .role-at2 .ensures) _ _ (c .before .before .before .before .before .before .before .before .before .store .ensures) (c .before .before .before .before .store2 .ensures), omega (arith, c .before .before .before .before .before .before .before .before .before .before .before .before .before .before .before .before .before .before .before .before .before .before .block-length .ensures .1, c .before .before .before .before .before .before .before .before .before .before .before .before .before .before .block-length2 .ensures .1, c .before .before .before .before .before .before .before .before .before .before .before .role-at2 .ensures .onward))
 
 statement-length-same-length : (t : ℕ) → statement-length-lts.Need-same-length (statement-length-calls t) (statement-length-at t) statement-length.Post
 statement-length-same-length t c = table-size (statement-length-returns t c .0)
@@ -143,12 +146,12 @@ statement-length-same-length t c = table-size (statement-length-returns t c .0)
 statement-length-returns-2 : (t : ℕ) → statement-length-lts.Need-returns-2 (statement-length-calls t) (statement-length-at t) statement-length.Post
 statement-length-returns-2 t c =
     let a = c .before .before .before .before .before .before .before .before .before .before .before .before .before .before .before .before .args in
-    (if-closed _ _ _ (a .h .role) (blockLength (a .left)) (a .h .next) (sym (c .before .before .before .before .before .before .before .before .before .before .before .before .before .is-if .ensures) ∙ c .before .before .before .before .before .before .before .before .before .before .before .before .if1 .taken) _ _ (c .before .before .before .before .before .before .before .before .before .before .block-length .ensures .0) _ (c .before .before .before .before .before .before .before .line-at .ensures) (sym (c .before .before .before .before .before .before .is-else .ensures) ∙ c .before .before .before .before .before .if2 .left) _ (c .before .before .before .store3 .ensures), search needs)
+    (if-closed _ _ _ (a .role) (blockLength (a .left)) (a .next) (sym (c .before .before .before .before .before .before .before .before .before .before .before .before .before .is-if .ensures) ∙ c .before .before .before .before .before .before .before .before .before .before .before .before .if1 .taken) _ _ (c .before .before .before .before .before .before .before .before .before .before .block-length .ensures .0) _ _ (c .before .before .before .before .before .before .before .role-at .ensures) (sym (c .before .before .before .before .before .before .is-else .ensures) ∙ c .before .before .before .before .before .if2 .left) _ (c .before .before .before .store3 .ensures), search needs)
 
 statement-length-returns-3 : (t : ℕ) → statement-length-lts.Need-returns-3 (statement-length-calls t) (statement-length-at t) statement-length.Post
 statement-length-returns-3 t c =
     let a = c .before .before .before .before .before .before .before .before .args in
-    (plain-length _ _ _ (a .h .role) (blockLength (a .left)) _ _ (sym (c .before .before .before .before .before .is-if .ensures) ∙ c .before .before .before .before .if1 .left) (search needs) (c .before .before .store4 .ensures), search needs)
+    (plain-length _ _ _ (a .role) (blockLength (a .left)) _ _ (sym (c .before .before .before .before .before .is-if .ensures) ∙ c .before .before .before .before .if1 .left) (search needs) (search needs) (c .before .before .store4 .ensures), search needs)
 
 pub +block-length+statement-length-spec : {M : Type 1} → statement M
 +block-length+statement-length-spec =

@@ -26,7 +26,7 @@ slice-aggregate-produce-2 c = search needs
 
 produce-requires : tie.Need-produce-requires
 unfolding skipTable
-produce-requires c κs = (search needs, search needs, c .before .before .before .block-length .ensures .0 .table, search needs)
+produce-requires c κs = (search needs, search needs, c .before .before .before .block-length .ensures .0 .table, search needs, search needs)
 
 plate-room-requires : tie.Need-plate-room-requires
 plate-room-requires c κs = search needs
@@ -50,7 +50,7 @@ produce-requires-2 : tie.Need-produce-requires-2
 unfolding skipTable
 produce-requires-2 c κs =
     let k = room-fits _ _ (sym (c .before .before .before .before .before .plate-room .ensures) ∙ c .before .before .before .length .given .1) in
-    (simp length-take (omega (arith, k .1, k .2)), search needs, c .before .before .before .before .before .before .before .before .before .before .before .block-length .ensures .0 .table, search needs)
+    (simp length-take (omega (arith, k .1, k .2)), search needs, c .before .before .before .before .before .before .before .before .before .before .before .block-length .ensures .0 .table, search needs, search needs)
 
 returns : tie.Need-returns
 unfolding plateBytes

@@ -4,12 +4,14 @@ use Prim.Native.Nat.{ℕ, _*_, _+_, _<_, _≤_}
 use borrow.Author.Needs.{needs}
 use mathlib.Core.Path.{_≡_, refl, sym, ap, _∙_}
 use native.Mathlib.Omega.{arith}
-use lib.ListN.{length}
+use lib.ListN.{length, drop}
+use Rattle.lines.specs.declared.Form.the-variants.{Guide as aGuide}
+use Rattle.lines.specs.Clean.{Clean}
 use Rattle.transcript.specs.Machine.{machineState}
 use Rattle.guide.specs.Lines.{beginsBy, linesAt}
-use Rattle.guide.proofs.Reading.{begins-first}
+use Rattle.guide.proofs.Reading.{begins-first, begins-further}
 use Rattle.walk.specs.Descend.{descend}
-use Rattle.walk.proofs.Leaving.{leaves-as, leaves-performed}
+use Rattle.walk.proofs.Leaving.{leaves-as, leaves-performed, paced-here}
 use Rattle.walk.proofs.LineStatements.{no-if, line-says, line-performs, if-test, if-walks}
 use Rattle.walk.proofs.Cycle.{Rest, block-none, block-ends, block-ended, block-goes}
 use Rattle.walk.proofs.Cycle.{true-ended, true-goes, no-else, else-ended, else-goes}
@@ -28,6 +30,7 @@ use Rattle.walk.proofs.blocks.true_block.Reads as true-block
 use Rattle.walk.proofs.blocks.true_block.Kinds as true-block-kinds
 use Rattle.walk.proofs.blocks.+block+no_block+statement+true_block.Lts-true_block as true-block-lts
 use Rattle.guide.proofs.line_at.Reads as line-at-reads
+use Rattle.guide.proofs.role_at.Reads as role-at-reads
 use Rattle.guide.proofs.pass_over.Reads as pass-over-reads
 use Rattle.guide.proofs.begins.Reads as begins-reads
 use Rattle.guide.proofs.is_else.Reads as is-else-reads
@@ -99,8 +102,8 @@ abbrev no-block-calls : ℕ → no-block-lts.Claims
 no-block-calls t = (
   pass-over-reads.Asked,
   pass-over-reads.Learnt,
-  line-at-reads.Asked,
-  line-at-reads.Learnt,
+  role-at-reads.Asked,
+  role-at-reads.Learnt,
   is-else-reads.Asked,
   is-else-reads.Learnt,
   block-below t,
@@ -139,26 +142,27 @@ true-block-calls t = (
 
 abbrev block-Inv-loop : block-lts.InvT-loop
 block-Inv-loop guide answers registers₀ out₀ lines a at left₀ place₀ end₀ m₀ registers out left place end m =
-    Rest guide answers left place (machineState registers answers m) end out at (descend lines (machineState registers₀ answers m₀) (linesAt guide a)) out₀ × (place ≤ length guide) × (m .steps ≤ place) × (left ≤ lines) × (length out ≡ length out₀)
+    Rest guide answers left place (machineState registers answers m) end out at (descend lines (machineState registers₀ answers m₀) (linesAt guide a)) out₀ × (place ≤ length guide) × (m .steps ≤ place) × (left ≤ lines) × (length out ≡ length out₀) × Clean aGuide (drop place guide)
 
 abbrev block-μ-loop : block-lts.MeasureT-loop
 block-μ-loop guide answers registers₀ out₀ lines a at left₀ place₀ end₀ m₀ registers out left place end m = left
 
 block-loop-holds : (t : ℕ) → block-lts.Need-loop-holds (block-calls t) (block-at t) block.Post block-Inv-loop block-μ-loop
-block-loop-holds t c = ((λ w rs o f. f), search needs, search needs, search needs, refl)
+block-loop-holds t c = ((λ w rs o f. f), search needs, search needs, search needs, refl, search needs)
 
 block-statement-requires : (t : ℕ) → block-lts.Need-statement-requires (block-calls t) (block-at t) block.Post block-Inv-loop block-μ-loop
 block-statement-requires t c κs =
     let v = sym (c .before .before .before .begins .ensures) ∙ c .before .before .if1 .taken in
     let f = begins-first _ _ _ (c .before .before .before .before .line-at .ensures) v in
-    let k = f .further in
-    (omega arith, (f .stands, v, omega arith))
+    let r = c .before .before .before .before .line-at .ensures .reads in
+    let k = begins-further _ _ _ _ r v in
+    (omega arith, (f .stands, v, omega arith, r .clean))
 
 block-loop-again : (t : ℕ) → block-lts.Need-loop-again (block-calls t) (block-at t) block.Post block-Inv-loop block-μ-loop
 block-loop-again t c =
     let v = sym (c .before .before .before .before .before .before .before .before .before .before .begins .ensures) ∙ c .before .before .before .before .before .before .before .before .before .if1 .taken in
     let p = c .before .before .before .before .before .before .statement .ensures .1 in
-    ((λ w rs o k. c .before .before .before .before .before .before .before .before .before .before .before .before .before .loop .inv .0 w rs o (block-goes _ _ _ _ (c .before .before .before .before .before .before .before .before .before .before .before .before .before .loop .left) (c .before .before .before .before .before .before .before .before .before .before .before .before .before .loop .place) _ _ (c .before .before .before .before .before .before .before .before .before .before .before .line-at .ensures) v (λ z. omega arith) _ _ _ (c .before .before .before .before .before .before .statement .ensures .0) _ _ _ (sym (c .before .before .goes-on .ensures) ∙ c .before .if2 .taken) k (omega (arith, c .before .before .before .before .before .before .before .before .before .before .before .before .before .before .before .before .good, c .before .before .before .before .before .before .before .before .before .before .before .before .before .loop .inv .4)))), p .within, p .steps, search needs, search needs)
+    ((λ w rs o k. c .before .before .before .before .before .before .before .before .before .before .before .before .before .loop .inv .0 w rs o (block-goes _ _ _ _ (c .before .before .before .before .before .before .before .before .before .before .before .before .before .loop .left) (c .before .before .before .before .before .before .before .before .before .before .before .before .before .loop .place) _ _ (c .before .before .before .before .before .before .before .before .before .before .before .line-at .ensures) v (λ z. omega arith) _ _ _ (c .before .before .before .before .before .before .statement .ensures .0) _ _ _ (sym (c .before .before .goes-on .ensures) ∙ c .before .if2 .taken) k (omega (arith, c .before .before .before .before .before .before .before .before .before .before .before .before .before .before .before .before .good, c .before .before .before .before .before .before .before .before .before .before .before .before .before .loop .inv .4)))), p .within, p .steps, search needs, search needs, p .clean)
 
 block-returns : (t : ℕ) → block-lts.Need-returns (block-calls t) (block-at t) block.Post block-Inv-loop block-μ-loop
 block-returns t c =
@@ -166,23 +170,23 @@ block-returns t c =
     (c .before .before .before .before .before .before .before .before .before .before .before .before .loop .inv .0 _ _ _ (block-ended _ _ _ _ (c .before .before .before .before .before .before .before .before .before .before .before .before .loop .left) (c .before .before .before .before .before .before .before .before .before .before .before .before .loop .place) _ _ (c .before .before .before .before .before .before .before .before .before .before .line-at .ensures) v (λ z. omega arith) _ _ _ (c .before .before .before .before .before .statement .ensures .0) (sym (c .before .goes-on .ensures) ∙ c .if2 .left)), c .before .before .before .before .before .statement .ensures .1)
 
 block-returns-2 : (t : ℕ) → block-lts.Need-returns-2 (block-calls t) (block-at t) block.Post block-Inv-loop block-μ-loop
-block-returns-2 t c = (c .before .before .before .before .before .loop .inv .0 _ _ _ (block-ends _ _ _ _ (c .before .before .before .before .before .loop .left) (c .before .before .before .before .before .loop .place) _ _ _ _ _ (c .before .before .before .line-at .ensures) (sym (c .before .before .begins .ensures) ∙ c .before .if1 .left) (c .here .ensures .0 _ _ _ _)), search needs)
+block-returns-2 t c = (c .before .before .before .before .before .loop .inv .0 _ _ _ (block-ends _ _ _ _ (c .before .before .before .before .before .loop .left) (c .before .before .before .before .before .loop .place) _ _ _ _ _ (c .before .before .before .line-at .ensures) (sym (c .before .before .begins .ensures) ∙ c .before .if1 .left) (c .here .ensures .0 _ _ _ _)), paced-here _ _ _ (c .here .ensures .1 .0) (omega arith) (omega arith) (c .before .before .before .before .before .loop .inv .5))
 
 block-returns-3 : (t : ℕ) → block-lts.Need-returns-3 (block-calls t) (block-at t) block.Post block-Inv-loop block-μ-loop
-block-returns-3 t c = (c .before .before .loop .inv .0 _ _ _ (block-none _ _ _ _ (c .before .before .loop .left) (c .before .before .loop .place) _ _ _ _ (omega arith) (c .here2 .ensures .0 _ _ _ _)), search needs)
+block-returns-3 t c = (c .before .before .loop .inv .0 _ _ _ (block-none _ _ _ _ (c .before .before .loop .left) (c .before .before .loop .place) _ _ _ _ (omega arith) (c .here2 .ensures .0 _ _ _ _)), paced-here _ _ _ (c .here2 .ensures .1 .0) (omega arith) (omega arith) (c .before .before .loop .inv .5))
 
 no-block-returns : (t : ℕ) → no-block-lts.Need-returns (no-block-calls t) (no-block-at t) no-block.Post
 no-block-returns t c =
     let v = sym (c .before .before .before .before .before .before .before .before .before .before .before .is-else .ensures) ∙ c .before .before .before .before .before .before .before .before .before .before .if1 .taken in
-    (else-goes _ _ _ _ (c .before .before .before .before .before .before .before .before .before .before .before .before .before .before .before .before .args .left) (c .before .before .before .before .before .before .before .before .before .before .before .before .before .before .before .before .args .a) _ _ _ (c .before .before .before .before .before .before .before .before .before .before .before .before .before .pass-over .ensures .0) (c .before .before .before .before .before .before .before .before .before .before .before .before .line-at .ensures) v _ _ _ (c .before .before .before .before .before .before .before .block .ensures .0) _ _ _ (sym (c .before .before .before .goes-on .ensures) ∙ c .before .before .if2 .taken) (c .leave-else .ensures .0 _ _ _) (omega (arith, c .before .before .before .before .before .before .before .before .before .before .before .before .before .before .before .before .good)), c .leave-else .ensures .1)
+    (else-goes _ _ _ _ (c .before .before .before .before .before .before .before .before .before .before .before .before .before .before .before .before .args .left) (c .before .before .before .before .before .before .before .before .before .before .before .before .before .before .before .before .args .a) _ _ _ _ (c .before .before .before .before .before .before .before .before .before .before .before .before .before .pass-over .ensures .0) (c .before .before .before .before .before .before .before .before .before .before .before .before .role-at .ensures) v _ _ _ (c .before .before .before .before .before .before .before .block .ensures .0) _ _ _ (sym (c .before .before .before .goes-on .ensures) ∙ c .before .before .if2 .taken) (c .leave-else .ensures .0 _ _ _) (omega (arith, c .before .before .before .before .before .before .before .before .before .before .before .before .before .before .before .before .good)), c .leave-else .ensures .1)
 
 no-block-returns-2 : (t : ℕ) → no-block-lts.Need-returns-2 (no-block-calls t) (no-block-at t) no-block.Post
 no-block-returns-2 t c =
     let v = sym (c .before .before .before .before .before .before .before .before .before .is-else .ensures) ∙ c .before .before .before .before .before .before .before .before .if1 .taken in
-    (else-ended _ _ _ _ (c .before .before .before .before .before .before .before .before .before .before .before .before .before .before .args .left) (c .before .before .before .before .before .before .before .before .before .before .before .before .before .before .args .a) _ _ _ (c .before .before .before .before .before .before .before .before .before .before .before .pass-over .ensures .0) (c .before .before .before .before .before .before .before .before .before .before .line-at .ensures) v _ _ _ (c .before .before .before .before .before .block .ensures .0) (sym (c .before .goes-on .ensures) ∙ c .if2 .left), c .before .before .before .before .before .block .ensures .1)
+    (else-ended _ _ _ _ (c .before .before .before .before .before .before .before .before .before .before .before .before .before .before .args .left) (c .before .before .before .before .before .before .before .before .before .before .before .before .before .before .args .a) _ _ _ _ (c .before .before .before .before .before .before .before .before .before .before .before .pass-over .ensures .0) (c .before .before .before .before .before .before .before .before .before .before .role-at .ensures) v _ _ _ (c .before .before .before .before .before .block .ensures .0) (sym (c .before .goes-on .ensures) ∙ c .if2 .left), c .before .before .before .before .before .block .ensures .1)
 
 no-block-returns-3 : (t : ℕ) → no-block-lts.Need-returns-3 (no-block-calls t) (no-block-at t) no-block.Post
-no-block-returns-3 t c = (no-else _ _ _ _ (c .before .before .before .before .before .before .before .args .left) (c .before .before .before .before .before .before .before .args .a) _ _ _ (c .before .before .before .before .pass-over .ensures .0) (c .before .before .before .line-at .ensures) _ _ _ (sym (c .before .before .is-else .ensures) ∙ c .before .if1 .left) (c .here .ensures .0 _ _ _ _), search needs)
+no-block-returns-3 t c = (no-else _ _ _ _ (c .before .before .before .before .before .before .before .args .left) (c .before .before .before .before .before .before .before .args .a) _ _ _ _ (c .before .before .before .before .pass-over .ensures .0) (c .before .before .before .role-at .ensures) _ _ _ (sym (c .before .before .is-else .ensures) ∙ c .before .if1 .left) (c .here .ensures .0 _ _ _ _), paced-here _ _ _ (c .here .ensures .1 .0) (omega arith) (omega arith) (c .before .before .before .role-at .ensures .clean))
 
 statement-perform-requires : (t : ℕ) → statement-lts.Need-perform-requires (statement-calls t) (statement-at t) statement′.Post
 statement-perform-requires t c κs =
@@ -193,7 +197,7 @@ statement-returns : (t : ℕ) → statement-lts.Need-returns (statement-calls t)
 statement-returns t c =
     let s = c .before .before .before .before .before .before .before .before .before .pre .1 .0 in
     let b = ap beginsBy (sym (s .role)) ∙ c .before .before .before .before .before .before .before .before .before .pre .1 .1 in
-    (leaves-as _ _ _ _ _ _ _ _ (leaves-performed _ _ _ _ _ _ _ _ _ (c .before .before .perform .ensures .0)) _ (line-performs _ _ (s .head) b (no-if _ (c .before .before .before .before .before .before .match .keys2)) _ _ _), record { steps = omega arith; within = s .within })
+    (leaves-as _ _ _ _ _ _ _ _ (leaves-performed _ _ _ _ _ _ _ _ _ (c .before .before .perform .ensures .0)) _ (line-performs _ _ (s .head) b (no-if _ (c .before .before .before .before .before .before .match .keys2)) _ _ _), record { steps = omega arith; within = s .within; clean = c .before .before .before .before .before .before .before .before .before .pre .1 .3 })
 
 statement-holds-requires : (t : ℕ) → statement-lts.Need-holds-requires (statement-calls t) (statement-at t) statement′.Post
 statement-holds-requires t c κs = if-test _ _ (c .before .before .before .before .before .before .before .pre .1 .0 .head) _ (c .before .before .before .head .given .1) .0
@@ -242,7 +246,7 @@ pub +block+no-block+statement+true-block-spec : {M : Type 1} → statement M
     (λ c κs. search needs)
     (λ c κs. search needs)
     (λ c κs. search needs)
-    (λ c κs. search needs)
+    (λ c κs. (search needs, (search needs, search needs, c .before .before .before .before .role-at .ensures .clean)))
     (λ c κs. search needs)
     (λ c κs. search needs)
     (λ c. search needs)
@@ -263,10 +267,10 @@ pub +block+no-block+statement+true-block-spec : {M : Type 1} → statement M
     (statement-returns t)
     (λ c κs. search needs)
     (statement-holds-requires t)
-    (λ c κs. search needs)
+    (λ c κs. (search needs, (search needs, search needs, search needs)))
     (λ c. search needs)
     (statement-returns-2 t)
-    (λ c κs. search needs)
+    (λ c κs. (search needs, (search needs, search needs, search needs)))
     (λ c. search needs)
     (statement-returns-3 t))
     λ t. true-block-lts.spec (true-block-calls t)

@@ -13,7 +13,7 @@ fresh-requires : tie.Need-fresh-requires
 fresh-requires c κs = search needs
 
 block-requires : tie.Need-block-requires
-block-requires c κs = (search needs, (let z = fresh-steps _ (c .fresh .ensures) in omega arith))
+block-requires c κs = (search needs, (let z = fresh-steps _ (c .fresh .ensures) in omega arith), c .before .before .before .before .before .pre)
 
 same-length : tie.Need-same-length
 same-length c = search needs

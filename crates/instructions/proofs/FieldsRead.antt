@@ -29,7 +29,7 @@ module _ (c : Phrases) (p q : Place) (k : ℕ) (e : got k q ≡ judged (number 3
   abbrev all : Read (List Text)
   all = many (λ j. text c) (k + 2) q
 
-  options-read : all ≡ options c p
+  pub options-read : all ≡ options c p
   unfolding options
   options-read =
       let two : k + 2 ≡ suc (suc k) = omega arith in

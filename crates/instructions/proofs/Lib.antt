@@ -1,4 +1,5 @@
 pub mod TextAnswers
+pub mod Known
 pub mod PhraseRead
 pub mod TextsRead
 pub mod FieldsRead

@@ -7,6 +7,7 @@ use lib.ListN.{length, drop}
 use lib.Dec.{leb}
 use Rattle.transcript.specs.Statement.{input, inputs, print, printex}
 use Rattle.causes.specs.declared.Refusal.{Refusal}
+use Rattle.causes.specs.declared.Cause.{Cause}
 use Rattle.causes.specs.declared.Cause.the-variants.{PlateEnds}
 use Rattle.bits.specs.Bits.{bytesBits}
 use Rattle.text.specs.Text.{Text}
@@ -53,6 +54,10 @@ pub record Lent (plate index book own : List ℕ) (count : ℕ) : Type 0 where
   pub indexed : Indexed index book
   pub few : count ≤ 32
   pub whole : length (ownTexts count own) ≡ count
+
+-- where this is known, what is read is no refusal
+pub record Known {A : Type 0} (known : Bool) (m : Read A) : Type 0 where
+  pub good : known ≡ true → {cause : Cause} {bit : ℕ} → stopped cause bit ≡ m → ⊥
 
 -- the code of a text, with n phrases
 abbrev pub codeWith : ℕ → ℕ → Bool

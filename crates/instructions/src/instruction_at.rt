@@ -1,12 +1,13 @@
 // Instructions of a plate: a code, and the fields that it calls for.
 ghost use mathlib.Core.Path.{_≡_};
 ghost use mathlib.Core.List.{List};
+ghost use mathlib.Core.Bool.{true};
 ghost use Prim.Native.Nat.{ℕ, _≤_};
 ghost use lib.ListN.{length};
 ghost use Rattle.phrases.specs.Lookup.{phrasesIn};
 ghost use Rattle.plate.specs.Plate.{fieldsBy, instruction};
 ghost use Rattle.fields.specs.Places.{placeAt};
-ghost use Rattle.instructions.specs.TextsAt.{instructionRead, Lent};
+ghost use Rattle.instructions.specs.TextsAt.{instructionRead, Lent, Known};
 use crate::InstructionAt;
 use crate::InstructionRead;
 use crate::TextRead;
@@ -28,15 +29,16 @@ fn read_input(
     book: &[u8],
     own: &[u8],
     count: usize,
+    known: bool,
 ) -> InstructionRead
-    requires { ⌜ Lent (now plate) (now index) (now book) (now own) count ⌝ }
+    requires { ⌜ Lent (now plate) (now index) (now book) (now own) count × Known known (fieldsBy (phrasesIn (now book) (now own) count) 0 0 (placeAt (now plate) at)) ⌝ }
     ensures { λ r. ⌜ instructionRead (now (plate .entry)) (now (book .entry)) (now (own .entry)) count r ≡ fieldsBy (phrasesIn (now (book .entry)) (now (own .entry)) count) 0 0 (placeAt (now (plate .entry)) at) ⌝ }
 {
     let first = read_plain(plate, at, 5);
     let Field::Is(register, text_at) = first else {
         return InstructionRead::Refused(first.refusal());
     };
-    let second = read_text(plate, text_at, index, book, own, count);
+    let second = read_text(plate, text_at, index, book, own, count, known);
     let TextRead::Is(text, next) = second else {
         return InstructionRead::Refused(second.refusal());
     };
@@ -51,15 +53,16 @@ fn read_inputs(
     book: &[u8],
     own: &[u8],
     count: usize,
+    known: bool,
 ) -> InstructionRead
-    requires { ⌜ Lent (now plate) (now index) (now book) (now own) count ⌝ }
+    requires { ⌜ Lent (now plate) (now index) (now book) (now own) count × Known known (fieldsBy (phrasesIn (now book) (now own) count) 0 1 (placeAt (now plate) at)) ⌝ }
     ensures { λ r. ⌜ instructionRead (now (plate .entry)) (now (book .entry)) (now (own .entry)) count r ≡ fieldsBy (phrasesIn (now (book .entry)) (now (own .entry)) count) 0 1 (placeAt (now (plate .entry)) at) ⌝ }
 {
     let first = read_plain(plate, at, 5);
     let Field::Is(register, text_at) = first else {
         return InstructionRead::Refused(first.refusal());
     };
-    let second = read_text(plate, text_at, index, book, own, count);
+    let second = read_text(plate, text_at, index, book, own, count, known);
     let TextRead::Is(text, number_at) = second else {
         return InstructionRead::Refused(second.refusal());
     };
@@ -68,7 +71,7 @@ fn read_inputs(
         return InstructionRead::Refused(third.refusal());
     };
     let options = less + 2;
-    let last = pass_texts(plate, bit, options, index, book, own, count);
+    let last = pass_texts(plate, bit, options, index, book, own, count, known);
     let Field::Is(_, next) = last else {
         return InstructionRead::Refused(last.refusal());
     };
@@ -91,11 +94,12 @@ fn read_print(
     book: &[u8],
     own: &[u8],
     count: usize,
+    known: bool,
 ) -> InstructionRead
-    requires { ⌜ Lent (now plate) (now index) (now book) (now own) count ⌝ }
+    requires { ⌜ Lent (now plate) (now index) (now book) (now own) count × Known known (fieldsBy (phrasesIn (now book) (now own) count) 0 2 (placeAt (now plate) at)) ⌝ }
     ensures { λ r. ⌜ instructionRead (now (plate .entry)) (now (book .entry)) (now (own .entry)) count r ≡ fieldsBy (phrasesIn (now (book .entry)) (now (own .entry)) count) 0 2 (placeAt (now (plate .entry)) at) ⌝ }
 {
-    let first = read_text(plate, at, index, book, own, count);
+    let first = read_text(plate, at, index, book, own, count, known);
     let TextRead::Is(text, next) = first else {
         return InstructionRead::Refused(first.refusal());
     };
@@ -110,11 +114,12 @@ fn read_printex(
     book: &[u8],
     own: &[u8],
     count: usize,
+    known: bool,
 ) -> InstructionRead
-    requires { ⌜ Lent (now plate) (now index) (now book) (now own) count ⌝ }
+    requires { ⌜ Lent (now plate) (now index) (now book) (now own) count × Known known (fieldsBy (phrasesIn (now book) (now own) count) 0 3 (placeAt (now plate) at)) ⌝ }
     ensures { λ r. ⌜ instructionRead (now (plate .entry)) (now (book .entry)) (now (own .entry)) count r ≡ fieldsBy (phrasesIn (now (book .entry)) (now (own .entry)) count) 0 3 (placeAt (now (plate .entry)) at) ⌝ }
 {
-    let first = read_text(plate, at, index, book, own, count);
+    let first = read_text(plate, at, index, book, own, count, known);
     let TextRead::Is(text, next) = first else {
         return InstructionRead::Refused(first.refusal());
     };
@@ -149,6 +154,34 @@ fn read_if(plate: &[u8], at: usize, behind: usize) -> InstructionRead
     InstructionRead::Is(InstructionAt::IfSkip { test, skip }, next)
 }
 
+// An instruction with so many behind it; whether it is known to be good.
+fn read_any(
+    plate: &[u8],
+    at: usize,
+    behind: usize,
+    index: &[u32],
+    book: &[u8],
+    own: &[u8],
+    count: usize,
+    known: bool,
+) -> InstructionRead
+    requires { ⌜ Lent (now plate) (now index) (now book) (now own) count × Known known (instruction (phrasesIn (now book) (now own) count) behind (placeAt (now plate) at)) ⌝ }
+    ensures { λ r. ⌜ instructionRead (now (plate .entry)) (now (book .entry)) (now (own .entry)) count r ≡ instruction (phrasesIn (now (book .entry)) (now (own .entry)) count) behind (placeAt (now (plate .entry)) at) ⌝ }
+{
+    let field = read_field(plate, at, 3, 5, Cause::Unused);
+    let Field::Is(code, next) = field else {
+        return InstructionRead::Refused(field.refusal());
+    };
+    match code {
+        0 => read_input(plate, next, index, book, own, count, known),
+        1 => read_inputs(plate, next, index, book, own, count, known),
+        2 => read_print(plate, next, index, book, own, count, known),
+        3 => read_printex(plate, next, index, book, own, count, known),
+        4 => read_goto(plate, next, behind),
+        _ => read_if(plate, next, behind),
+    }
+}
+
 // An instruction with so many behind it.
 pub fn read_instruction(
     plate: &[u8],
@@ -162,16 +195,21 @@ pub fn read_instruction(
     requires { ⌜ Lent (now plate) (now index) (now book) (now own) count ⌝ }
     ensures { λ r. ⌜ instructionRead (now (plate .entry)) (now (book .entry)) (now (own .entry)) count r ≡ instruction (phrasesIn (now (book .entry)) (now (own .entry)) count) behind (placeAt (now (plate .entry)) at) ⌝ }
 {
-    let field = read_field(plate, at, 3, 5, Cause::Unused);
-    let Field::Is(code, next) = field else {
-        return InstructionRead::Refused(field.refusal());
-    };
-    match code {
-        0 => read_input(plate, next, index, book, own, count),
-        1 => read_inputs(plate, next, index, book, own, count),
-        2 => read_print(plate, next, index, book, own, count),
-        3 => read_printex(plate, next, index, book, own, count),
-        4 => read_goto(plate, next, behind),
-        _ => read_if(plate, next, behind),
-    }
+    read_any(plate, at, behind, index, book, own, count, false)
+}
+
+// The same, where the instruction was read before: its texts are not judged again.
+pub fn accepted_instruction(
+    plate: &[u8],
+    at: usize,
+    behind: usize,
+    index: &[u32],
+    book: &[u8],
+    own: &[u8],
+    count: usize,
+) -> InstructionRead
+    requires { ⌜ Lent (now plate) (now index) (now book) (now own) count × Known true (instruction (phrasesIn (now book) (now own) count) behind (placeAt (now plate) at)) ⌝ }
+    ensures { λ r. ⌜ instructionRead (now (plate .entry)) (now (book .entry)) (now (own .entry)) count r ≡ instruction (phrasesIn (now (book .entry)) (now (own .entry)) count) behind (placeAt (now (plate .entry)) at) ⌝ }
+{
+    read_any(plate, at, behind, index, book, own, count, true)
 }

@@ -10,11 +10,11 @@ mod spelled_text;
 mod text_at;
 
 use causes::Refusal;
+pub use instruction_at::accepted_instruction;
 pub use instruction_at::read_instruction;
 pub use phrase_place::read_phrase;
 pub use spelled_text::read_spelled;
-pub use text_at::pass_texts;
-pub use text_at::read_text;
+pub use text_at::accepted_text;
 use transcript::Test;
 
 // A text of a plate: characters from a bit on, or a phrase by its place in the book or among the own phrases.

@@ -10,6 +10,7 @@ ghost use Rattle.phrases.specs.Lookup.{bookTexts, ownTexts};
 ghost use Rattle.phrases.specs.Index.{Indexed};
 ghost use Rattle.plate.specs.Plate.{spelled};
 ghost use Rattle.fields.specs.Places.{placeAt, sizeRead, charactersIn};
+ghost use Rattle.instructions.specs.TextsAt.{Known};
 use causes::Cause;
 use causes::Refusal;
 use fields::Field;
@@ -76,4 +77,23 @@ pub fn read_spelled(
         cause: Cause::Spelling,
         place: at,
     })
+}
+
+// The same; a text that is known to be good is not judged again.
+pub fn spelled_at(
+    plate: &[u8],
+    at: usize,
+    index: &[u32],
+    book: &[u8],
+    own: &[u8],
+    count: usize,
+    known: bool,
+) -> Field
+    requires { ⌜ (length (now plate) ≤ 2953) × Indexed (now index) (now book) × Known known (spelled (bookTexts (now book)) (ownTexts count (now own)) (placeAt (now plate) at)) ⌝ }
+    ensures { λ r. ⌜ sizeRead (now (plate .entry)) at r ≡ spelled (bookTexts (now (book .entry))) (ownTexts count (now (own .entry))) (placeAt (now (plate .entry)) at) ⌝ }
+{
+    if known {
+        return read_size(plate, at);
+    }
+    read_spelled(plate, at, index, book, own, count)
 }

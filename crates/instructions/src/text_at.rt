@@ -1,5 +1,6 @@
 // Texts of a plate: spelled out, or a phrase; and several, one behind the other.
 ghost use mathlib.Core.Path.{_≡_};
+ghost use mathlib.Core.Bool.{true};
 ghost use Prim.Native.Nat.{_+_, _≤_};
 ghost use lib.ListN.{length};
 ghost use Rattle.causes.specs.declared.Cause.the-variants.{Unused};
@@ -7,11 +8,11 @@ ghost use Rattle.phrases.specs.Lookup.{phrasesIn};
 ghost use Rattle.plate.specs.Reading.{number, judged, many};
 ghost use Rattle.plate.specs.Plate as reader;
 ghost use Rattle.fields.specs.Places.{placeAt, fieldRead, endWith};
-ghost use Rattle.instructions.specs.TextsAt.{textsRead, codeWith, Lent};
+ghost use Rattle.instructions.specs.TextsAt.{textsRead, codeWith, Lent, Known};
 use crate::TextAt;
 use crate::TextRead;
 use crate::phrase_place::read_phrase;
-use crate::spelled_text::read_spelled;
+use crate::spelled_text::spelled_at;
 use causes::Cause;
 use causes::Refusal;
 use fields::Field;
@@ -46,7 +47,7 @@ fn read_code(plate: &[u8], at: usize, n: usize) -> Field
     })
 }
 
-// A text.
+// A text; whether it is known to be good.
 pub fn read_text(
     plate: &[u8],
     at: usize,
@@ -54,8 +55,9 @@ pub fn read_text(
     book: &[u8],
     own: &[u8],
     count: usize,
+    known: bool,
 ) -> TextRead
-    requires { ⌜ Lent (now plate) (now index) (now book) (now own) count ⌝ }
+    requires { ⌜ Lent (now plate) (now index) (now book) (now own) count × Known known (reader.text (phrasesIn (now book) (now own) count) (placeAt (now plate) at)) ⌝ }
     ensures { λ r. ⌜ textsRead (now (plate .entry)) (now (book .entry)) (now (own .entry)) r ≡ reader.text (phrasesIn (now (book .entry)) (now (own .entry)) count) (placeAt (now (plate .entry)) at) ⌝ }
 {
     let field = read_code(plate, at, index.len() + count);
@@ -65,11 +67,26 @@ pub fn read_text(
     if code != 0 {
         return read_phrase(plate, bit, index, book, own, count);
     }
-    let spelled = read_spelled(plate, bit, index, book, own, count);
+    let spelled = spelled_at(plate, bit, index, book, own, count, known);
     let Field::Is(size, next) = spelled else {
         return TextRead::Refused(spelled.refusal());
     };
     TextRead::Is(TextAt::Spelled { bit, size }, next)
+}
+
+// A text that was read before: it is not judged again.
+pub fn accepted_text(
+    plate: &[u8],
+    at: usize,
+    index: &[u32],
+    book: &[u8],
+    own: &[u8],
+    count: usize,
+) -> TextRead
+    requires { ⌜ Lent (now plate) (now index) (now book) (now own) count × Known true (reader.text (phrasesIn (now book) (now own) count) (placeAt (now plate) at)) ⌝ }
+    ensures { λ r. ⌜ textsRead (now (plate .entry)) (now (book .entry)) (now (own .entry)) r ≡ reader.text (phrasesIn (now (book .entry)) (now (own .entry)) count) (placeAt (now (plate .entry)) at) ⌝ }
+{
+    read_text(plate, at, index, book, own, count, true)
 }
 
 // The bit behind n texts, one behind the other.
@@ -81,14 +98,15 @@ pub fn pass_texts(
     book: &[u8],
     own: &[u8],
     count: usize,
+    known: bool,
 ) -> Field
-    requires { ⌜ Lent (now plate) (now index) (now book) (now own) count ⌝ }
+    requires { ⌜ Lent (now plate) (now index) (now book) (now own) count × Known known (many (λ j. reader.text (phrasesIn (now book) (now own) count)) n (placeAt (now plate) at)) ⌝ }
     ensures { λ r. ⌜ fieldRead (now (plate .entry)) r ≡ endWith n (many (λ j. reader.text (phrasesIn (now (book .entry)) (now (own .entry)) count)) n (placeAt (now (plate .entry)) at)) ⌝ }
 {
     let mut bit = at;
     let mut left = n;
     while 0 < left {
-        let text = read_text(plate, bit, index, book, own, count);
+        let text = read_text(plate, bit, index, book, own, count, known);
         let TextRead::Is(_, next) = text else {
             return Field::Refused(text.refusal());
         };

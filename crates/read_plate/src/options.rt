@@ -9,7 +9,7 @@ ghost use Rattle.reader.specs.Holding.{There};
 ghost use Rattle.read_plate.specs.Lines.{optionsAt};
 use crate::field::put_text;
 use instructions::TextRead;
-use instructions::read_text;
+use instructions::accepted_text;
 
 // So many options from a bit on, each behind a comma. All are there, so none is refused.
 pub fn put_options<'a>(
@@ -30,7 +30,7 @@ pub fn put_options<'a>(
     let mut place = bit;
     let mut left = options;
     while 0 < left {
-        let option = read_text(plate, place, index, book, own, count);
+        let option = accepted_text(plate, place, index, book, own, count);
         let TextRead::Is(text, next) = option else {
             return end;
         };

@@ -18,7 +18,7 @@ use causes::Refusal;
 use causes::Written;
 use instructions::InstructionAt;
 use instructions::InstructionRead;
-use instructions::read_instruction;
+use instructions::accepted_instruction;
 use reader::Contents;
 
 // The line of an instruction at a place of the listing: its tail from there on, which is empty past the buffer's end, takes it.
@@ -59,7 +59,7 @@ fn put_instructions<'a>(
     let mut place = bit;
     let mut left = n;
     while 0 < left {
-        let read = read_instruction(plate, place, left - 1, index, book, own, count);
+        let read = accepted_instruction(plate, place, left - 1, index, book, own, count);
         let InstructionRead::Is(i, next) = read else {
             return end;
         };

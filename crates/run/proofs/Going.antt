@@ -2,7 +2,7 @@
 use Prim.Native.Nat.{ℕ, zero, suc, _-_, _≤_, _<_}
 use mathlib.Core.Path.{_≡_, refl, sym, ap, _∙_}
 use mathlib.Core.List.{List, [], _∷_}
-use mathlib.Core.Bool.{cond}
+use mathlib.Core.Bool.{true, cond}
 use lib.ListN.{length}
 use lib.IntN.{ℤ}
 use Rattle.causes.specs.declared.Refusal.{Refusal}
@@ -24,7 +24,7 @@ use Rattle.fields.specs.Places.{placeAt}
 use Rattle.instructions.specs.declared.InstructionAt.{InstructionAt}
 use Rattle.instructions.specs.declared.InstructionRead.{InstructionRead}
 use Rattle.instructions.specs.declared.InstructionRead.the-variants as instructions
-use Rattle.instructions.specs.TextsAt.{instructionAt, instructionRead}
+use Rattle.instructions.specs.TextsAt.{instructionAt, instructionRead, Known}
 use Rattle.reader.specs.declared.Contents.{Contents}
 use Rattle.reader.specs.Holding.{instructionsAt, programAt}
 use Rattle.run.specs.Run.{run}
@@ -73,6 +73,12 @@ module _ (plate book own : List ℕ) (count : ℕ) where
     pub others : Continues plate book own count (left - 1) next
 
   module _ (left bit : ℕ) (t : Continues plate book own count left bit) where
+    -- the first of them is known to be good
+    pub instruction-known : 0 < left → Known true (reader.instruction (phrasesIn book own count) (left - 1) (placeAt plate bit))
+    unfolding instructionsAt
+    instruction-known h =
+        record { good = λ k e. next-there (reader.instruction (phrasesIn book own count)) plate left bit t h e }
+
     module _ (f : InstructionRead)
         (e : instructionRead plate book own count f ≡ reader.instruction (phrasesIn book own count) (left - 1) (placeAt plate bit)) where
       pub instruction-got : {i : InstructionAt} {next : ℕ} → f ≡ instructions.Is i next

@@ -21,7 +21,7 @@ use Rattle.fields.proofs.Answers.{answered}
 use Rattle.instructions.specs.declared.TextAt.{TextAt}
 use Rattle.instructions.specs.declared.TextRead.{TextRead}
 use Rattle.instructions.specs.declared.TextRead.the-variants as texts
-use Rattle.instructions.specs.TextsAt.{textAt, textsRead, textRefusal}
+use Rattle.instructions.specs.TextsAt.{textAt, textsRead, textRefusal, Known}
 use Rattle.reader.proofs.Next.{there-length}
 use Rattle.run.specs.Says.{textsAt, Offers}
 use Rattle.run.proofs.Nexts.{valuesAt, next-read, next-there, none-left}
@@ -35,6 +35,12 @@ module _ (plate book own : List ℕ) (count : ℕ) where
     pub split : textsAt plate book own count left bit ≡ textAt plate book own text ∷ textsAt plate book own count (left - 1) next
     pub good : TextOk (textAt plate book own text)
     pub others : Offers plate book own count (left - 1) next
+
+  -- the first of them is known to be good
+  pub option-known : (left bit : ℕ) → Offers plate book own count left bit → 0 < left
+      → Known true (reader.text (phrasesIn book own count) (placeAt plate bit))
+  unfolding textsAt
+  option-known left bit o h = record { good = λ k e. next-there texts-from plate left bit (o .there) h e }
 
   module _ (left bit : ℕ) (o : Offers plate book own count left bit) (f : TextRead)
       (e : textsRead plate book own f ≡ reader.text (phrasesIn book own count) (placeAt plate bit)) where

@@ -45,7 +45,15 @@ fn run_from<'a>(
     let mut over = 0;
     while 0 < left {
         // Never refused: the whole plate has been read.
-        let read = instructions::read_instruction(plate, bit, left - 1, index, book, own, count);
+        let read = instructions::accepted_instruction(
+            plate,
+            bit,
+            left - 1,
+            index,
+            book,
+            own,
+            count,
+        );
         let InstructionRead::Is(i, next) = read else {
             return p;
         };

@@ -36,7 +36,7 @@ fn put_options<'a>(
     let mut left = options;
     while 0 < left {
         // Never refused: the whole plate has been read.
-        let read = instructions::read_text(plate, place, index, book, own, count);
+        let read = instructions::accepted_text(plate, place, index, book, own, count);
         let TextRead::Is(text, next) = read else {
             return end;
         };

@@ -5,6 +5,7 @@ use Rattle.plate.specs.Reading.{return}
 use Rattle.instructions.specs.TextsAt.{instructionAt}
 use Rattle.fields.proofs.Onward.{then-got, then-stopped}
 use Rattle.fields.proofs.Answers.{field-got, field-stopped}
+use Rattle.instructions.proofs.Known.{known-first, known-then}
 use Rattle.instructions.proofs.TextAnswers.{text-got, text-stopped}
 use Rattle.instructions.proofs.instruction_at.read_input.Statement.{statement}
 use Rattle.instructions.proofs.instruction_at.read_input.Tie as tie
@@ -27,7 +28,11 @@ returns c =
     (field-stopped _ _ (c .before .before .before .read-plain .ensures) (c .before .enum-told .given .1) (c .refusal .ensures))
 
 read-text-requires : tie.Need-read-text-requires
-read-text-requires c κs = search needs
+read-text-requires c κs = (
+  search needs,
+  known-first _ _ _ (known-then _ _ _ (c .before .before .before .before .before .before .before .before .pre .1)
+      (field-got _ _ (c .before .before .before .read-plain .ensures) (c .before .first .given .1))),
+)
 
 enum-known-second : tie.Need-enum-known-second
 enum-known-second c = search needs

@@ -7,8 +7,9 @@ use Rattle.instructions.specs.TextsAt.{instructionAt}
 use Rattle.plate.proofs.Readers.{gives-number, gives-judged}
 use Rattle.fields.proofs.Onward.{then-got, then-stopped, got-good}
 use Rattle.fields.proofs.Answers.{field-got, field-stopped}
+use Rattle.instructions.proofs.Known.{known-same, known-first, known-then}
 use Rattle.instructions.proofs.TextAnswers.{text-got, text-stopped}
-use Rattle.instructions.proofs.FieldsRead.{options-got, options-stopped, options-refused}
+use Rattle.instructions.proofs.FieldsRead.{options-read, options-got, options-stopped, options-refused}
 use Rattle.instructions.proofs.instruction_at.read_inputs.Statement.{statement}
 use Rattle.instructions.proofs.instruction_at.read_inputs.Tie as tie
 
@@ -30,7 +31,11 @@ returns c =
     (field-stopped _ _ (c .before .before .before .read-plain .ensures) (c .before .enum-told .given .1) (c .refusal .ensures))
 
 read-text-requires : tie.Need-read-text-requires
-read-text-requires c κs = search needs
+read-text-requires c κs = (
+  search needs,
+  known-first _ _ _ (known-then _ _ _ (c .before .before .before .before .before .before .before .before .pre .1)
+      (field-got _ _ (c .before .before .before .read-plain .ensures) (c .before .first .given .1))),
+)
 
 enum-known-second : tie.Need-enum-known-second
 enum-known-second c = search needs
@@ -78,7 +83,18 @@ add-options c = let few = got-good _ (gives-judged _ _ (gives-number 3))
     (field-got _ _ (c .before .before .before .read-field .ensures) (c .before .third .given .1)) in omega (arith, few .0)
 
 pass-texts-requires : tie.Need-pass-texts-requires
-pass-texts-requires c κs = search needs
+pass-texts-requires c κs =
+    let k = field-got _ _ (c .before .before .before .read-field .ensures) (c .before .third .given .1) in (
+      search needs,
+      known-same (options-read _ _ _ _ k)
+          (known-first _ _ _
+          (known-then _ _ _
+          (known-then _ _ _ (c .before .before .before .before .before .before .before .before .before .before .before .before .before .before .before .before .pre .1)
+          (field-got _ _ (c .before .before .before .before .before .before .before .before .before .before .before .read-plain .ensures)
+          (c .before .before .before .before .before .before .before .before .before .first .given .1)))
+          (text-got _ _ _ _ (c .before .before .before .before .before .before .before .read-text .ensures)
+          (c .before .before .before .before .before .second .given .1)))),
+    )
 
 enum-known-last : tie.Need-enum-known-last
 enum-known-last c = search needs

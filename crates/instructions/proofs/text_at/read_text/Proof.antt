@@ -12,6 +12,7 @@ use Rattle.instructions.specs.TextsAt.{textAt}
 use Rattle.plate.specs.Plate as reader
 use Rattle.fields.proofs.Onward.{then-got, then-stopped}
 use Rattle.fields.proofs.Answers.{field-got, field-stopped, size-got, size-stopped}
+use Rattle.instructions.proofs.Known.{known-same, known-then}
 use Rattle.instructions.proofs.PhraseRead.{book-count}
 use Rattle.instructions.proofs.TextsRead.{text-code, some-phrase, by-spelled, by-phrase}
 use Rattle.instructions.proofs.text_at.read_text.Statement.{statement}
@@ -26,7 +27,7 @@ code-read c =
     let b = c .before .before .before .before .before in
     c .read-code .ensures
     ∙ text-code (phrasesIn (b .args .book .now) (b .args .own .now) (b .args .count)) (length (b .args .index .now) + b .args .count) _ _
-    (omega (arith, book-count (b .pre), b .pre .whole))
+    (omega (arith, book-count (b .pre .0), b .pre .0 .whole))
 
 add-read-code : tie.Need-add-read-code
 add-read-code c = search needs
@@ -60,8 +61,16 @@ returns-2 c =
     c .read-phrase .ensures ∙ by-phrase _ _ _ (c .before .if1 .taken)
     ∙ then-got _ _ _ (field-got _ _ (code-read (c .before .before .before .before .before)) (c .before .before .before .field .given .1))
 
-read-spelled-requires : tie.Need-read-spelled-requires
-read-spelled-requires c κs = search needs
+spelled-at-requires : tie.Need-spelled-at-requires
+unfolding reader.text
+spelled-at-requires c κs =
+    let b = c .before .before .before .before .before .before .before .before .before in (
+      b .pre .0 .short,
+      b .pre .0 .indexed,
+      known-same (by-spelled _ _ _ (c .if1 .left))
+          (known-then _ _ _ (b .pre .1)
+          (field-got _ _ (code-read (c .before .before .before .before)) (c .before .before .field .given .1))),
+    )
 
 enum-known-spelled : tie.Need-enum-known-spelled
 enum-known-spelled c = search needs
@@ -75,7 +84,7 @@ refusal-requires-2 c κs = search needs
 returns-3 : tie.Need-returns-3
 unfolding reader.text
 returns-3 c =
-    size-stopped _ _ _ (c .before .before .before .read-spelled .ensures) (c .before .enum-told2 .given .1) (c .refusal2 .ensures)
+    size-stopped _ _ _ (c .before .before .before .spelled-at .ensures) (c .before .enum-told2 .given .1) (c .refusal2 .ensures)
     ∙ by-spelled _ _ _ (c .before .before .before .before .if1 .left)
     ∙ then-got _ _ _
     (field-got _ _ (code-read (c .before .before .before .before .before .before .before .before))
@@ -84,7 +93,7 @@ returns-3 c =
 returns-4 : tie.Need-returns-4
 unfolding reader.text textAt
 returns-4 c =
-    size-got _ _ _ (c .before .before .before .read-spelled .ensures) (c .before .spelled .given .1)
+    size-got _ _ _ (c .before .before .before .spelled-at .ensures) (c .before .spelled .given .1)
     ∙ by-spelled _ _ _ (c .before .before .before .before .if1 .left)
     ∙ then-got _ _ _
     (field-got _ _ (code-read (c .before .before .before .before .before .before .before .before))
@@ -102,7 +111,7 @@ read-text-spec =
     returns
     read-phrase-requires
     returns-2
-    read-spelled-requires
+    spelled-at-requires
     enum-known-spelled
     enum-told-2
     refusal-requires-2

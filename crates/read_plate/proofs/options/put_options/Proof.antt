@@ -23,8 +23,8 @@ abbrev μ-loop : tie.MeasureT-loop
 loop-holds : tie.Need-loop-holds Inv-loop μ-loop
 loop-holds c = (left-all options-pieces _ _ _ _ (c .before .before .before .before .before .pre .1) (omega arith), refl)
 
-read-text-requires : tie.Need-read-text-requires Inv-loop μ-loop
-read-text-requires c κs = search needs
+accepted-text-requires : tie.Need-accepted-text-requires Inv-loop μ-loop
+accepted-text-requires c κs = (search needs, record { good = λ h e. left-read options-pieces _ _ _ (c .before .loop .inv .0) (omega arith) e })
 
 enum-known-option : tie.Need-enum-known-option Inv-loop μ-loop
 enum-known-option c = search needs
@@ -36,7 +36,7 @@ same-length : tie.Need-same-length Inv-loop μ-loop
 same-length c = search needs
 
 returns : tie.Need-returns Inv-loop μ-loop
-returns c = absurd (left-read options-pieces _ _ _ (c .before .before .before .before .loop .inv .0) (omega arith) (text-stopped _ _ _ _ (c .before .before .read-text .ensures) (c .enum-told .given .1) refl))
+returns c = absurd (left-read options-pieces _ _ _ (c .before .before .before .before .loop .inv .0) (omega arith) (text-stopped _ _ _ _ (c .before .before .accepted-text .ensures) (c .enum-told .given .1) refl))
 
 put-text-requires : tie.Need-put-text-requires Inv-loop μ-loop
 put-text-requires c κs = search needs
@@ -48,7 +48,7 @@ loop-less : tie.Need-loop-less Inv-loop μ-loop
 loop-less c = search needs
 
 loop-again : tie.Need-loop-again Inv-loop μ-loop
-loop-again c = (left-more options-pieces _ _ _ (c .before .before .before .before .before .before .before .before .before .loop .inv .0) (omega arith) (text-got _ _ _ _ (c .before .before .before .before .before .before .before .read-text .ensures) (c .before .before .before .before .before .option .given .1)) (c .before .before .put-text .ensures) (omega arith), search needs)
+loop-again c = (left-more options-pieces _ _ _ (c .before .before .before .before .before .before .before .before .before .loop .inv .0) (omega arith) (text-got _ _ _ _ (c .before .before .before .before .before .before .before .accepted-text .ensures) (c .before .before .before .before .before .option .given .1)) (c .before .before .put-text .ensures) (omega arith), search needs)
 
 same-length-2 : tie.Need-same-length-2 Inv-loop μ-loop
 same-length-2 c = search needs
@@ -63,7 +63,7 @@ put-options-spec =
     Inv-loop
     μ-loop
     loop-holds
-    read-text-requires
+    accepted-text-requires
     enum-known-option
     enum-told
     same-length

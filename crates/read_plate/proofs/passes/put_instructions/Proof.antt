@@ -25,11 +25,11 @@ abbrev μ-loop : tie.MeasureT-loop
 loop-holds : tie.Need-loop-holds Inv-loop μ-loop
 loop-holds c = (left-all (lines-pieces instructionFields) _ _ _ _ (c .before .before .before .before .before .pre .1) (omega arith), refl)
 
-sub-read-instruction : tie.Need-sub-read-instruction Inv-loop μ-loop
-sub-read-instruction c = search needs
+sub-accepted-instruction : tie.Need-sub-accepted-instruction Inv-loop μ-loop
+sub-accepted-instruction c = search needs
 
-read-instruction-requires : tie.Need-read-instruction-requires Inv-loop μ-loop
-read-instruction-requires c κs = search needs
+accepted-instruction-requires : tie.Need-accepted-instruction-requires Inv-loop μ-loop
+accepted-instruction-requires c κs = (search needs, record { good = λ h e. left-read (lines-pieces instructionFields) _ _ _ (c .before .loop .inv .0) (omega arith) e })
 
 enum-known-read : tie.Need-enum-known-read Inv-loop μ-loop
 enum-known-read c = search needs
@@ -41,10 +41,10 @@ same-length : tie.Need-same-length Inv-loop μ-loop
 same-length c = search needs
 
 returns : tie.Need-returns Inv-loop μ-loop
-returns c = absurd (left-read (lines-pieces instructionFields) _ _ _ (c .before .before .before .before .loop .inv .0) (omega arith) (instruction-stopped _ _ _ _ _ (c .before .before .read-instruction .ensures) (c .enum-told .given .1) refl))
+returns c = absurd (left-read (lines-pieces instructionFields) _ _ _ (c .before .before .before .before .loop .inv .0) (omega arith) (instruction-stopped _ _ _ _ _ (c .before .before .accepted-instruction .ensures) (c .enum-told .given .1) refl))
 
 line-at-requires : tie.Need-line-at-requires Inv-loop μ-loop
-line-at-requires c κs = (c .before .before .before .before .before .before .before .before .before .before .before .before .pre .0, instruction-ready _ _ _ _ _ _ _ (c .before .before .before .before .read-instruction .ensures) _ (c .before .before .read .given .1))
+line-at-requires c κs = (c .before .before .before .before .before .before .before .before .before .before .before .before .pre .0, instruction-ready _ _ _ _ _ _ _ (c .before .before .before .before .accepted-instruction .ensures) _ (c .before .before .read .given .1))
 
 sub-left : tie.Need-sub-left Inv-loop μ-loop
 sub-left c = search needs
@@ -53,7 +53,7 @@ loop-less : tie.Need-loop-less Inv-loop μ-loop
 loop-less c = search needs
 
 loop-again : tie.Need-loop-again Inv-loop μ-loop
-loop-again c = (left-more (lines-pieces instructionFields) _ _ _ (c .before .before .before .before .before .before .before .before .before .loop .inv .0) (omega arith) (instruction-got _ _ _ _ _ (c .before .before .before .before .before .before .before .read-instruction .ensures) (c .before .before .before .before .before .read .given .1)) (c .before .before .line-at .ensures) (omega arith), search needs)
+loop-again c = (left-more (lines-pieces instructionFields) _ _ _ (c .before .before .before .before .before .before .before .before .before .loop .inv .0) (omega arith) (instruction-got _ _ _ _ _ (c .before .before .before .before .before .before .before .accepted-instruction .ensures) (c .before .before .before .before .before .read .given .1)) (c .before .before .line-at .ensures) (omega arith), search needs)
 
 same-length-2 : tie.Need-same-length-2 Inv-loop μ-loop
 same-length-2 c = search needs
@@ -68,8 +68,8 @@ put-instructions-spec =
     Inv-loop
     μ-loop
     loop-holds
-    sub-read-instruction
-    read-instruction-requires
+    sub-accepted-instruction
+    accepted-instruction-requires
     enum-known-read
     enum-told
     same-length

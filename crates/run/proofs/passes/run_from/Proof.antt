@@ -10,7 +10,7 @@ use Rattle.transcript.proofs.Follow.{not-end}
 use Rattle.run.specs.Run.{run}
 use Rattle.run.specs.Accepted.{instructionsFrom, Continues}
 use Rattle.run.proofs.Accepting.{accepted-meets}
-use Rattle.run.proofs.Going.{following, instruction-got, instruction-there, lay-stopped, lay-onward, lay-done}
+use Rattle.run.proofs.Going.{following, instruction-known, instruction-got, instruction-there, lay-stopped, lay-onward, lay-done}
 use Rattle.run.proofs.passes.run_from.Statement.{statement}
 use Rattle.run.proofs.passes.run_from.Tie as tie
 
@@ -23,11 +23,11 @@ abbrev μ-loop : tie.MeasureT-loop
 loop-holds : tie.Need-loop-holds Inv-loop μ-loop
 loop-holds c = (c .before .before .before .before .before .pre .1, refl, c .before .before .before .before .before .pre .2, c .before .before .before .before .before .pre .3, search needs, refl)
 
-sub-read-instruction : tie.Need-sub-read-instruction Inv-loop μ-loop
-sub-read-instruction c = search needs
+sub-accepted-instruction : tie.Need-sub-accepted-instruction Inv-loop μ-loop
+sub-accepted-instruction c = search needs
 
-read-instruction-requires : tie.Need-read-instruction-requires Inv-loop μ-loop
-read-instruction-requires c κs = c .before .before .before .before .before .before .before .pre .0 .stands .lent
+accepted-instruction-requires : tie.Need-accepted-instruction-requires Inv-loop μ-loop
+accepted-instruction-requires c κs = (c .before .before .before .before .before .before .before .pre .0 .stands .lent, instruction-known _ _ _ _ _ _ (c .before .loop .inv .0) (search needs))
 
 enum-known-read : tie.Need-enum-known-read Inv-loop μ-loop
 enum-known-read c = search needs
@@ -39,10 +39,10 @@ same-length : tie.Need-same-length Inv-loop μ-loop
 same-length c = search needs
 
 returns : tie.Need-returns Inv-loop μ-loop
-returns c = absurd (instruction-there _ _ _ _ _ _ (c .before .before .before .before .loop .inv .0) _ (c .before .before .read-instruction .ensures) (search needs) (c .enum-told .given .1))
+returns c = absurd (instruction-there _ _ _ _ _ _ (c .before .before .before .before .loop .inv .0) _ (c .before .before .accepted-instruction .ensures) (search needs) (c .enum-told .given .1))
 
 meet-requires : tie.Need-meet-requires Inv-loop μ-loop
-meet-requires c κs = (c .before .before .before .before .before .before .before .before .before .before .before .before .before .pre .0 .stands .lent, accepted-meets _ _ _ _ _ (c .before .before .before .before .before .before .before .before .before .before .before .before .before .pre .0) (λ i. omega (arith, c .before .before .before .before .before .before .before .before .before .before .before .before .shared-slice-known .given i)) _ _ _ _ (instruction-got _ _ _ _ _ _ (c .before .before .before .before .before .before .before .loop .inv .0) _ (c .before .before .before .before .before .read-instruction .ensures) (c .before .before .before .read .given .1)), omega (arith, c .before .before .before .before .before .before .before .loop .inv .3))
+meet-requires c κs = (c .before .before .before .before .before .before .before .before .before .before .before .before .before .pre .0 .stands .lent, accepted-meets _ _ _ _ _ (c .before .before .before .before .before .before .before .before .before .before .before .before .before .pre .0) (λ i. omega (arith, c .before .before .before .before .before .before .before .before .before .before .before .before .shared-slice-known .given i)) _ _ _ _ (instruction-got _ _ _ _ _ _ (c .before .before .before .before .before .before .before .loop .inv .0) _ (c .before .before .before .before .before .accepted-instruction .ensures) (c .before .before .before .read .given .1)), omega (arith, c .before .before .before .before .before .before .before .loop .inv .3))
 
 enum-told-2 : tie.Need-enum-told-2 Inv-loop μ-loop
 enum-told-2 c = search needs
@@ -51,7 +51,7 @@ same-length-2 : tie.Need-same-length-2 Inv-loop μ-loop
 same-length-2 c = search needs
 
 returns-2 : tie.Need-returns-2 Inv-loop μ-loop
-returns-2 c = let f = following _ _ _ _ _ _ (c .before .before .before .before .before .before .before .before .before .before .before .before .loop .inv .0) _ (c .before .before .before .before .before .before .before .before .before .before .read-instruction .ensures) (search needs) (c .before .before .before .before .before .before .before .before .read .given .1) in
+returns-2 c = let f = following _ _ _ _ _ _ (c .before .before .before .before .before .before .before .before .before .before .before .before .loop .inv .0) _ (c .before .before .before .before .before .before .before .before .before .before .accepted-instruction .ensures) (search needs) (c .before .before .before .before .before .before .before .before .read .given .1) in
     lay-stopped _ _ _ _ _ _ _ _ _ (c .before .before .before .before .meet .ensures .0) _ _ (f .split) (not-end _ (c .match2 .keys2)) ∙ c .before .before .before .before .before .before .before .before .before .before .before .before .loop .inv .1
 
 sub-left : tie.Need-sub-left Inv-loop μ-loop
@@ -61,7 +61,7 @@ loop-less : tie.Need-loop-less Inv-loop μ-loop
 loop-less c = search needs
 
 loop-again : tie.Need-loop-again Inv-loop μ-loop
-loop-again c = let f = following _ _ _ _ _ _ (c .before .before .before .before .before .before .before .before .before .before .before .before .before .loop .inv .0) _ (c .before .before .before .before .before .before .before .before .before .before .before .read-instruction .ensures) (search needs) (c .before .before .before .before .before .before .before .before .before .read .given .1) in
+loop-again c = let f = following _ _ _ _ _ _ (c .before .before .before .before .before .before .before .before .before .before .before .before .before .loop .inv .0) _ (c .before .before .before .before .before .before .before .before .before .before .before .accepted-instruction .ensures) (search needs) (c .before .before .before .before .before .before .before .before .before .read .given .1) in
     (f .others, lay-onward _ _ _ _ _ _ _ _ _ (c .before .before .before .before .before .meet .ensures .0) _ _ (f .split) _ (c .enum-told2 .given .1) (c .before .before .before .before .before .meet .ensures .1 .0) (omega (arith, c .before .before .before .before .before .before .before .before .before .before .before .before .before .before .before .before .before .before .before .good)) ∙ c .before .before .before .before .before .before .before .before .before .before .before .before .before .loop .inv .1, c .enum-told2 .given .1, omega (arith, c .before .before .before .before .before .before .before .before .before .before .before .before .before .loop .inv .3, c .before .before .before .before .before .meet .ensures .1 .1), search needs, search needs)
 
 same-length-3 : tie.Need-same-length-3 Inv-loop μ-loop
@@ -77,8 +77,8 @@ run-from-spec =
     Inv-loop
     μ-loop
     loop-holds
-    sub-read-instruction
-    read-instruction-requires
+    sub-accepted-instruction
+    accepted-instruction-requires
     enum-known-read
     enum-told
     same-length

@@ -8,7 +8,7 @@ use Rattle.output.specs.Pour.{poured}
 use Rattle.transcript.specs.Offered.{optionsBytes}
 use Rattle.run.specs.Says.{textsAt, Offers}
 use Rattle.run.proofs.Handed.{text-fits}
-use Rattle.run.proofs.Offering.{option-read, option-there, write-first, write-last}
+use Rattle.run.proofs.Offering.{option-known, option-read, option-there, write-first, write-last}
 use Rattle.run.proofs.perform.put_options.Statement.{statement}
 use Rattle.run.proofs.perform.put_options.Tie as tie
 
@@ -21,8 +21,8 @@ abbrev μ-loop : tie.MeasureT-loop
 loop-holds : tie.Need-loop-holds Inv-loop μ-loop
 loop-holds c = (c .before .before .before .before .before .pre .1, refl, refl, search needs)
 
-read-text-requires : tie.Need-read-text-requires Inv-loop μ-loop
-read-text-requires c κs = search needs
+accepted-text-requires : tie.Need-accepted-text-requires Inv-loop μ-loop
+accepted-text-requires c κs = (search needs, option-known _ _ _ _ _ _ (c .before .loop .inv .0) (search needs))
 
 enum-known-read : tie.Need-enum-known-read Inv-loop μ-loop
 enum-known-read c = search needs
@@ -34,16 +34,16 @@ same-length : tie.Need-same-length Inv-loop μ-loop
 same-length c = search needs
 
 returns : tie.Need-returns Inv-loop μ-loop
-returns c = absurd (option-there _ _ _ _ _ _ (c .before .before .before .before .loop .inv .0) _ (c .before .before .read-text .ensures) (search needs) (c .enum-told .given .1))
+returns c = absurd (option-there _ _ _ _ _ _ (c .before .before .before .before .loop .inv .0) _ (c .before .before .accepted-text .ensures) (search needs) (c .enum-told .given .1))
 
 spell-requires : tie.Need-spell-requires Inv-loop μ-loop
-spell-requires c κs = let o = option-read _ _ _ _ _ _ (c .before .before .before .before .before .loop .inv .0) _ (c .before .before .before .read-text .ensures) (search needs) (c .before .read .given .1) in (search needs, text-fits _ _ _ _ (o .good))
+spell-requires c κs = let o = option-read _ _ _ _ _ _ (c .before .before .before .before .before .loop .inv .0) _ (c .before .before .before .accepted-text .ensures) (search needs) (c .before .read .given .1) in (search needs, text-fits _ _ _ _ (o .good))
 
 slice-aggregate-text-of : tie.Need-slice-aggregate-text-of Inv-loop μ-loop
 slice-aggregate-text-of c = search needs
 
 text-of-requires : tie.Need-text-of-requires Inv-loop μ-loop
-text-of-requires c κs = let o = option-read _ _ _ _ _ _ (c .before .before .before .before .before .before .before .before .loop .inv .0) _ (c .before .before .before .before .before .before .read-text .ensures) (search needs) (c .before .before .before .before .read .given .1) in (search needs, text-fits _ _ _ _ (o .good), search needs)
+text-of-requires c κs = let o = option-read _ _ _ _ _ _ (c .before .before .before .before .before .before .before .before .loop .inv .0) _ (c .before .before .before .before .before .before .accepted-text .ensures) (search needs) (c .before .before .before .before .read .given .1) in (search needs, text-fits _ _ _ _ (o .good), search needs)
 
 put-option-requires : tie.Need-put-option-requires Inv-loop μ-loop
 put-option-requires c κs = search needs
@@ -55,7 +55,7 @@ loop-less : tie.Need-loop-less Inv-loop μ-loop
 loop-less c = search needs
 
 loop-again : tie.Need-loop-again Inv-loop μ-loop
-loop-again c = let o = option-read _ _ _ _ _ _ (c .before .before .before .before .before .before .before .before .before .before .before .before .loop .inv .0) _ (c .before .before .before .before .before .before .before .before .before .before .read-text .ensures) (search needs) (c .before .before .before .before .before .before .before .before .read .given .1) in
+loop-again c = let o = option-read _ _ _ _ _ _ (c .before .before .before .before .before .before .before .before .before .before .before .before .loop .inv .0) _ (c .before .before .before .before .before .before .before .before .before .before .accepted-text .ensures) (search needs) (c .before .before .before .before .before .before .before .before .read .given .1) in
     (o .others, write-first _ _ _ _ _ _ _ _ _ _ _ _ o (rw (c .before .before .before .text-of .ensures ∙ c .before .before .before .before .before .before .spell .ensures _ _) at (c .before .before .put-option .ensures)) (omega (arith, c .before .before .before .before .before .before .before .before .before .before .before .before .before .before .before .before .before .before .good)) ∙ c .before .before .before .before .before .before .before .before .before .before .before .before .loop .inv .1, search needs, search needs)
 
 same-length-2 : tie.Need-same-length-2 Inv-loop μ-loop
@@ -71,7 +71,7 @@ put-options-spec =
     Inv-loop
     μ-loop
     loop-holds
-    read-text-requires
+    accepted-text-requires
     enum-known-read
     enum-told
     same-length

@@ -61,13 +61,14 @@ far plate n h = go (leb n 18446744073709551615) refl
         past (upTo n) (omega arith) ∙ sym (past n (omega arith))
 
 module _ {plate : List ℕ} {bit i place : ℕ} (s : Passed plate bit i place) where
-  pub passed-more : (next : ℕ) → length plate ≤ 2953 → next ≡ upTo (place + 7) → Passed plate bit (i + 1) next
-  passed-more next h e =
-      let k : i * 7 + 7 ≡ (i + 1) * 7 = omega arith in
+  pub passed-by : (n next : ℕ) → length plate ≤ 2953 → next ≡ upTo (place + n * 7) → Passed plate bit (i + n) next
+  passed-by n next h e =
+      let k : i * 7 + n * 7 ≡ (i + n) * 7 = omega arith in
       record {
         rest =
-            ap (λ n. drop n (bytesBits plate)) e ∙ far plate (place + 7) h ∙ sym (drop-drop 7 place (bytesBits plate))
-            ∙ ap (drop 7) (s .rest) ∙ drop-drop 7 (i * 7) (drop bit (bytesBits plate)) ∙ ap (λ n. drop n (drop bit (bytesBits plate))) k;
+            ap (λ n. drop n (bytesBits plate)) e ∙ far plate (place + n * 7) h ∙ sym (drop-drop (n * 7) place (bytesBits plate))
+            ∙ ap (drop (n * 7)) (s .rest) ∙ drop-drop (n * 7) (i * 7) (drop bit (bytesBits plate))
+            ∙ ap (λ n. drop n (drop bit (bytesBits plate))) k;
       }
 
   -- the character there is the next one

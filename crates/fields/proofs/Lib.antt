@@ -6,3 +6,4 @@ pub mod Copied
 pub mod Answers
 pub mod SignedRead
 pub mod Ops
+pub mod Threes

@@ -1,14 +1,15 @@
 -- What the code's answers stand for: a place of a plate by its bit, and the fields that are read there.
-use Prim.Native.Nat.{ℕ, zero, suc}
+use Prim.Native.Nat.{ℕ, zero, suc, _+_, _*_, _-_, _≤_}
+use mathlib.Core.Path.{_≡_}
 use mathlib.Core.List.{List, [], _∷_}
-use mathlib.Core.Bool.{Bool}
+use mathlib.Core.Bool.{Bool, true}
 use lib.ListN.{length, take, drop}
 use lib.IntN.{ℤ}
 use Rattle.transcript.specs.declared.Test.{Test}
 use Rattle.causes.specs.declared.Refusal.{Refusal}
 use Rattle.causes.specs.declared.Cause.the-variants.{PlateEnds}
 use Rattle.bits.specs.Bits.{valueOf, bytesBits}
-use Rattle.text.specs.Text.{Text}
+use Rattle.text.specs.Text.{Text, textByte}
 use Rattle.plate.specs.Reading.{Place, Read, got, stopped, Reader}
 use Rattle.plate.specs.Plate.{characters}
 use Rattle.fields.specs.declared.Field as field
@@ -56,6 +57,13 @@ testRefusal (tests.Refused r) = r
 unfoldable pub charactersIn : ℕ → List Bool → Text
 charactersIn zero bs = []
 charactersIn (suc n) bs = valueOf (take 7 bs) ∷ charactersIn n (drop 7 bs)
+
+-- three bytes of a text stand at a bit
+pub record ThreeAt (plate : List ℕ) (bit : ℕ) : Type 0 where
+  pub room : 21 ≤ length plate * 8 - bit
+  pub first : textByte (valueOf (take 7 (drop bit (bytesBits plate)))) ≡ true
+  pub second : textByte (valueOf (take 7 (drop (bit + 7) (bytesBits plate)))) ≡ true
+  pub third : textByte (valueOf (take 7 (drop (bit + 14) (bytesBits plate)))) ≡ true
 
 -- "characters, ETX": all that stand at a place
 abbrev pub untilETX : Reader Text

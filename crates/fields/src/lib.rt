@@ -7,6 +7,7 @@ mod numbers;
 mod refusals;
 mod spelling;
 mod tests;
+mod three;
 
 use causes::Refusal;
 pub use constant::read_constant;

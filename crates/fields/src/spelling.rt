@@ -12,9 +12,24 @@ ghost use Rattle.plate.specs.Plate.{character};
 ghost use Rattle.fields.specs.Places.{placeAt, fieldRead, sizeRead, untilETX, charactersIn};
 use crate::Field;
 use crate::numbers::read_plain;
+use crate::three::put_three;
+use crate::three::three_follow;
 use bits::Number;
 use causes::Cause;
 use causes::Refusal;
+
+// Whether a number is a byte of a text.
+pub fn is_plain(code: usize) -> bool
+    ensures { λ r. ⌜ r ≡ textByte code ⌝ }
+{
+    if code < 32 {
+        return false;
+    }
+    if 126 < code {
+        return false;
+    }
+    code != 44
+}
 
 // Whether a number is ETX or a byte of a text.
 fn is_character(code: usize) -> bool
@@ -23,13 +38,7 @@ fn is_character(code: usize) -> bool
     if code == 3 {
         return true;
     }
-    if code < 32 {
-        return false;
-    }
-    if 126 < code {
-        return false;
-    }
-    code != 44
+    is_plain(code)
 }
 
 // A character, or ETX.
@@ -57,6 +66,10 @@ pub fn read_size(plate: &[u8], at: usize) -> Field
 {
     let mut size = 0;
     let mut bit = at;
+    while three_follow(plate, bit) {
+        size += 3;
+        bit += 21;
+    }
     loop {
         let field = read_character(plate, bit);
         let Field::Is(code, next) = field else {
@@ -94,14 +107,11 @@ fn last_bits(plate: &[u8], bit: usize) -> u8
     0
 }
 
-// So many characters from a bit on, as bytes.
-pub fn put_characters(plate: &[u8], bit: usize, size: usize, out: &mut [u8], at: usize) -> usize
+// So many characters from a bit on, as bytes, one by one.
+pub fn put_each(plate: &[u8], bit: usize, size: usize, out: &mut [u8], at: usize) -> usize
     requires { ⌜ length (now plate) ≤ 2953 ⌝ }
     ensures { λ r. ⌜ (r, now (out .exit)) ≡ poured at (charactersIn size (drop bit (bytesBits (now (plate .entry))))) (now (out .entry)) ⌝ }
 {
-    if out.len() <= at {
-        return output::sum(at, size);
-    }
     let mut end = at;
     let mut place = bit;
     let mut i = 0;
@@ -111,4 +121,24 @@ pub fn put_characters(plate: &[u8], bit: usize, size: usize, out: &mut [u8], at:
         i += 1;
     }
     end
+}
+
+// So many characters from a bit on, as bytes: three at once, where the buffer has room for them.
+pub fn put_characters(plate: &[u8], bit: usize, size: usize, out: &mut [u8], at: usize) -> usize
+    requires { ⌜ length (now plate) ≤ 2953 ⌝ }
+    ensures { λ r. ⌜ (r, now (out .exit)) ≡ poured at (charactersIn size (drop bit (bytesBits (now (plate .entry))))) (now (out .entry)) ⌝ }
+{
+    if out.len() <= at {
+        return output::sum(at, size);
+    }
+    let threes = output::least(size, out.len() - at) / 3;
+    let mut end = at;
+    let mut place = bit;
+    let mut i = 0;
+    while i < threes {
+        end = put_three(plate, place, out, end);
+        place = output::sum(place, 21);
+        i += 1;
+    }
+    put_each(plate, place, size - threes * 3, out, end)
 }

@@ -1,4 +1,4 @@
--- `read_size` meets its contract. The loop's invariant: the characters passed and those behind them are the whole text.
+-- `read_size` meets its contract. The loops' invariant: the characters passed and those behind them are the whole text.
 -- The measure is the bits that are left.
 use Prim.Native.Nat.{_*_, _-_}
 use mathlib.Core.Path.{ap, _∙_}
@@ -8,6 +8,7 @@ use borrow.Author.Needs.{needs}
 use Rattle.fields.specs.Places.{sizeRead}
 use Rattle.fields.proofs.Answers.{field-got, field-refused}
 use Rattle.fields.proofs.Characters.{SizeSoFar, size-start, size-more, size-stopped, size-ended, character-read}
+use Rattle.fields.proofs.Threes.{size-three}
 use Rattle.fields.proofs.spelling.read_size.Statement.{statement}
 use Rattle.fields.proofs.spelling.read_size.Tie as tie
 
@@ -17,39 +18,57 @@ Inv-loop plate at size₀ bit₀ size bit = SizeSoFar plate at size bit
 abbrev μ-loop : tie.MeasureT-loop
 μ-loop plate at size₀ bit₀ size bit = length plate * 8 - bit
 
-loop-holds : tie.Need-loop-holds Inv-loop μ-loop
+abbrev Inv-loop2 : tie.InvT-loop2
+Inv-loop2 plate at size₀ bit₀ size bit = SizeSoFar plate at size bit
+
+abbrev μ-loop2 : tie.MeasureT-loop2
+μ-loop2 plate at size₀ bit₀ size bit = length plate * 8 - bit
+
+loop-holds : tie.Need-loop-holds Inv-loop μ-loop Inv-loop2 μ-loop2
 loop-holds c = size-start _ _
 
-read-character-requires : tie.Need-read-character-requires Inv-loop μ-loop
+three-follow-requires : tie.Need-three-follow-requires Inv-loop μ-loop Inv-loop2 μ-loop2
+three-follow-requires c κs = search needs
+
+add-size : tie.Need-add-size Inv-loop μ-loop Inv-loop2 μ-loop2
+add-size c = omega (arith, c .before .before .loop .inv .place, c .before .three-follow .ensures (c .if1 .taken) .room)
+
+add-bit : tie.Need-add-bit Inv-loop μ-loop Inv-loop2 μ-loop2
+add-bit c = omega (arith, c .before .three-follow .ensures (c .if1 .taken) .room)
+
+loop-less : tie.Need-loop-less Inv-loop μ-loop Inv-loop2 μ-loop2
+loop-less c = omega (arith, c .before .three-follow .ensures (c .if1 .taken) .room)
+
+loop-again : tie.Need-loop-again Inv-loop μ-loop Inv-loop2 μ-loop2
+loop-again c = size-three (c .before .before .loop .inv) (c .before .three-follow .ensures (c .if1 .taken))
+
+loop2-holds : tie.Need-loop2-holds Inv-loop μ-loop Inv-loop2 μ-loop2
+loop2-holds c = c .before .before .loop .inv
+
+read-character-requires : tie.Need-read-character-requires Inv-loop μ-loop Inv-loop2 μ-loop2
 read-character-requires c κs = search needs
 
-enum-known-field : tie.Need-enum-known-field Inv-loop μ-loop
+enum-known-field : tie.Need-enum-known-field Inv-loop μ-loop Inv-loop2 μ-loop2
 enum-known-field c = search needs
 
-enum-told : tie.Need-enum-told Inv-loop μ-loop
+enum-told : tie.Need-enum-told Inv-loop μ-loop Inv-loop2 μ-loop2
 enum-told c = search needs
 
-returns : tie.Need-returns Inv-loop μ-loop
-returns c = ap (sizeRead _ _) (c .enum-told .given .1) ∙ size-stopped (c .before .before .before .loop .inv)
+returns : tie.Need-returns Inv-loop μ-loop Inv-loop2 μ-loop2
+returns c = ap (sizeRead _ _) (c .enum-told .given .1) ∙ size-stopped (c .before .before .before .loop2 .inv)
     (field-refused _ _ (c .before .before .read-character .ensures) (c .enum-told .given .1))
 
-returns-2 : tie.Need-returns-2 Inv-loop μ-loop
-returns-2 c = size-ended (c .before .before .before .before .before .loop .inv) _ _
-    (field-got _ _ (c .before .before .before .before .read-character .ensures) (c .before .before .field .given .1)) (c .if1 .taken)
+returns-2 : tie.Need-returns-2 Inv-loop μ-loop Inv-loop2 μ-loop2
+returns-2 c = size-ended (c .before .before .before .before .before .loop2 .inv) _ _ (field-got _ _ (c .before .before .before .before .read-character .ensures) (c .before .before .field .given .1)) (c .if2 .taken)
 
-add-size : tie.Need-add-size Inv-loop μ-loop
-add-size c = let r =
-    character-read _ _ (field-got _ _ (c .before .before .before .before .read-character .ensures) (c .before .before .field .given .1)) in
-    omega (arith, c .before .before .before .before .before .loop .inv .place, r .room)
+add-size-2 : tie.Need-add-size-2 Inv-loop μ-loop Inv-loop2 μ-loop2
+add-size-2 c = let r = character-read _ _ (field-got _ _ (c .before .before .before .before .read-character .ensures) (c .before .before .field .given .1)) in omega (arith, c .before .before .before .before .before .loop2 .inv .place, r .room)
 
-loop-less : tie.Need-loop-less Inv-loop μ-loop
-loop-less c = let r =
-    character-read _ _ (field-got _ _ (c .before .before .before .before .read-character .ensures) (c .before .before .field .given .1)) in
-    omega (arith, r .behind, r .room)
+loop2-less : tie.Need-loop2-less Inv-loop μ-loop Inv-loop2 μ-loop2
+loop2-less c = let r = character-read _ _ (field-got _ _ (c .before .before .before .before .read-character .ensures) (c .before .before .field .given .1)) in omega (arith, r .behind, r .room)
 
-loop-again : tie.Need-loop-again Inv-loop μ-loop
-loop-again c = size-more (c .before .before .before .before .before .loop .inv) _ _
-    (field-got _ _ (c .before .before .before .before .read-character .ensures) (c .before .before .field .given .1)) (c .if1 .left)
+loop2-again : tie.Need-loop2-again Inv-loop μ-loop Inv-loop2 μ-loop2
+loop2-again c = size-more (c .before .before .before .before .before .loop2 .inv) _ _ (field-got _ _ (c .before .before .before .before .read-character .ensures) (c .before .before .field .given .1)) (c .if2 .left)
 
 pub read-size-spec : {M : Type 1} → statement M
 read-size-spec =
@@ -57,12 +76,20 @@ read-size-spec =
     (tie.spec
     Inv-loop
     μ-loop
+    Inv-loop2
+    μ-loop2
     loop-holds
+    three-follow-requires
+    add-size
+    add-bit
+    loop-less
+    loop-again
+    loop2-holds
     read-character-requires
     enum-known-field
     enum-told
     returns
     returns-2
-    add-size
-    loop-less
-    loop-again)
+    add-size-2
+    loop2-less
+    loop2-again)

@@ -9,7 +9,7 @@ ghost use Rattle.text.specs.Number.{decimalℕ};
 ghost use Rattle.phrases.specs.Lookup.{phrasesIn};
 ghost use Rattle.phrases.specs.Index.{Indexed};
 ghost use Rattle.plate.specs.Plate as reader;
-ghost use Rattle.transcript.specs.Statement.{input, inputs};
+ghost use Rattle.transcript.specs.Statement.{input, inputs, print, printex};
 ghost use Rattle.plate.specs.Program.{goto, ifSkip};
 ghost use Rattle.instructions.specs.TextsAt.{textAt, Lent, instructionAt};
 ghost use Rattle.reader.specs.Holding.{There};
@@ -40,6 +40,36 @@ fn put_text_line<'a>(
     let end = text::put(tail, 0, word);
     let end = put_text(plate, index, book, own, text, tail, end);
     text::put_byte(tail, end, b'\n')
+}
+
+// `print,TEXT`.
+fn put_print<'a>(
+    plate: &[u8],
+    index: &'a [u32],
+    book: &'a [u8],
+    own: &'a [u8],
+    text: TextAt,
+    tail: &mut [u8],
+) -> usize
+    requires { ⌜ (length (now plate) ≤ 2953) × Indexed (now index) (now book) ⌝ }
+    ensures { λ r. ⌜ (r, now (tail .exit)) ≡ poured 0 (linesText (statementFields (print (textAt (now (plate .entry)) (now (book .entry)) (now (own .entry)) text)) ∷ [])) (now (tail .entry)) ⌝ }
+{
+    put_text_line(plate, index, book, own, b"print", text, tail)
+}
+
+// `printex,TEXT`.
+fn put_printex<'a>(
+    plate: &[u8],
+    index: &'a [u32],
+    book: &'a [u8],
+    own: &'a [u8],
+    text: TextAt,
+    tail: &mut [u8],
+) -> usize
+    requires { ⌜ (length (now plate) ≤ 2953) × Indexed (now index) (now book) ⌝ }
+    ensures { λ r. ⌜ (r, now (tail .exit)) ≡ poured 0 (linesText (statementFields (printex (textAt (now (plate .entry)) (now (book .entry)) (now (own .entry)) text)) ∷ [])) (now (tail .entry)) ⌝ }
+{
+    put_text_line(plate, index, book, own, b"printex", text, tail)
 }
 
 // The front of a question's line: a word, a register and a text.
@@ -159,24 +189,8 @@ pub fn put_instruction<'a>(
             bit,
             tail,
         ),
-        InstructionAt::Print { text } => put_text_line(
-            plate,
-            index,
-            book,
-            own,
-            b"print",
-            text,
-            tail,
-        ),
-        InstructionAt::Printex { text } => put_text_line(
-            plate,
-            index,
-            book,
-            own,
-            b"printex",
-            text,
-            tail,
-        ),
+        InstructionAt::Print { text } => put_print(plate, index, book, own, text, tail),
+        InstructionAt::Printex { text } => put_printex(plate, index, book, own, text, tail),
         InstructionAt::Goto { skip } => put_goto(skip, tail),
         InstructionAt::IfSkip { test, skip } => put_if(test, skip, tail),
     }

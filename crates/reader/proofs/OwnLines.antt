@@ -13,7 +13,7 @@ use Rattle.text.proofs.Tests.{all-first, all-rest, all-append, all-so}
 use Rattle.text.proofs.Splits.{other, split-part, split-last}
 use Rattle.text.proofs.Bytes.{text-bytes, text-size, text-no-comma, text-no-LF}
 use Rattle.phrases.specs.Lookup.{phraseText, ownTexts}
-use Rattle.reader.specs.Own.{phraseLine}
+use Rattle.reader.specs.Own.{phraseLine, ownLines}
 
 -- ---- one line
 
@@ -36,10 +36,6 @@ module _ (t : Text) (ok : TextOk t) where
   line-length = simp length-append (omega (arith, text-size t ok .1))
 
 -- ---- lines
-
-unfoldable pub ownLines : List Text → List ℕ
-ownLines [] = []
-ownLines (t ∷ ts) = phraseLine t ++ ownLines ts
 
 pub lines-more : (ts : List Text) (t : Text) → ownLines ts ++ phraseLine t ≡ ownLines (ts ++ (t ∷ []))
 unfolding ownLines

@@ -1,14 +1,16 @@
 -- The own phrases of a plate, as the lines `phrase,TEXT` that the code writes.
-use Prim.Native.Nat.{ℕ, _≤_}
+use Prim.Native.Nat.{ℕ, zero, suc, _≤_}
 use mathlib.Core.Path.{_≡_}
 use mathlib.Core.List.{List, [], _∷_, _++_}
+use mathlib.Core.Bool.{cond}
 use lib.ListN.{length}
+use lib.Dec.{leb}
 use Rattle.text.specs.Quoted.{bytes}
 use Rattle.text.specs.Parts.{LF}
 use Rattle.text.specs.Text.{Text}
 use Rattle.phrases.specs.Lookup.{ownTexts}
-use Rattle.plate.specs.Reading.{Read, got, stopped, Reader, _>>=_}
-use Rattle.plate.specs.Plate.{ownCount, ownFrom}
+use Rattle.plate.specs.Reading.{Place, Read, got, stopped, Reader, _>>=_}
+use Rattle.plate.specs.Plate.{spelled, ownCount, ownFrom}
 use Rattle.fields.specs.declared.Field as field
 use Rattle.fields.specs.declared.Field.the-variants as fields
 use Rattle.fields.specs.Places.{placeAt}
@@ -32,3 +34,27 @@ ownRead plate own (fields.Refused r) = stopped (r .cause) (r .place)
 abbrev pub OwnThere : List ℕ → field.Field → Type 0
 OwnThere own (fields.Is n next) = (n ≤ 32) × (length (ownTexts n own) ≡ n)
 OwnThere own (fields.Refused r) = Unit
+
+-- the lines of own phrases, one behind the other
+unfoldable pub ownLines : List Text → List ℕ
+ownLines [] = []
+ownLines (t ∷ ts) = phraseLine t ++ ownLines ts
+
+-- what follows a text that was read; nothing follows a refusal
+abbrev pub whenRead : Read Text → (Text → Place → List Text) → List Text
+whenRead (got t q) f = f t q
+whenRead (stopped cause bit) f = []
+
+-- the own phrases that are read before the first refusal, at most n, each judged against the book and the earlier ones
+unfoldable pub ownUntil : List Text → List Text → ℕ → Place → List Text
+ownUntil book earlier zero p = []
+ownUntil book earlier (suc n) p = whenRead (spelled book earlier p) (λ t q. t ∷ ownUntil book (earlier ++ (t ∷ [])) n q)
+
+-- as many as their number says; none where it is refused
+abbrev pub ownCounted : List Text → Read ℕ → List Text
+ownCounted book (got n q) = ownUntil book [] n q
+ownCounted book (stopped cause bit) = []
+
+-- the own phrases of a plate that are read before the reading stops; a plate over 2,953 bytes is not read
+unfoldable pub ownStored : List Text → List ℕ → List Text
+ownStored book plate = cond (leb (length plate) 2953) (ownCounted book (ownCount (placeAt plate 0))) []

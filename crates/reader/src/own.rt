@@ -4,13 +4,13 @@ ghost use mathlib.Core.Path.{_≡_};
 ghost use mathlib.Core.List.{[]};
 ghost use Prim.Native.Nat.{_≤_};
 ghost use lib.ListN.{length, drop};
-ghost use Rattle.output.specs.Pour.{poured};
+ghost use Rattle.output.specs.Pour.{pour, poured};
 ghost use Rattle.bits.specs.Bits.{bytesBits};
 ghost use Rattle.phrases.specs.Lookup.{bookTexts};
 ghost use Rattle.phrases.specs.Index.{Indexed};
 ghost use Rattle.plate.specs.Plate.{ownCount, ownFrom};
 ghost use Rattle.fields.specs.Places.{placeAt, fieldRead, charactersIn};
-ghost use Rattle.reader.specs.Own.{phraseLine, ownPhrases, ownRead, OwnThere};
+ghost use Rattle.reader.specs.Own.{phraseLine, ownPhrases, ownRead, OwnThere, ownLines, ownUntil, ownCounted};
 use fields::Field;
 use fields::put_characters;
 use fields::read_plain;
@@ -57,6 +57,7 @@ fn read_phrases(
     requires { ⌜ (length (now plate) ≤ 2953) × Indexed (now index) (now book) × (count ≤ 32) × (2304 ≤ length (now own)) ⌝ }
     ensures { λ r. ⌜ ownRead (now (plate .entry)) (now (own .exit)) r ≡ ownFrom (bookTexts (now (book .entry))) [] count (placeAt (now (plate .entry)) at) ⌝ }
     ensures { λ r. ⌜ OwnThere (now (own .exit)) r ⌝ }
+    ensures { λ r. ⌜ now (own .exit) ≡ pour 0 (ownLines (ownUntil (bookTexts (now (book .entry))) [] count (placeAt (now (plate .entry)) at))) (now (own .entry)) ⌝ }
 {
     let mut bit = at;
     let mut end = 0;
@@ -73,11 +74,12 @@ fn read_phrases(
     Field::Is(count, bit)
 }
 
-// The own phrases of a plate, as lines at the front of `own`. What stands there behind the lines, or where the plate is refused, is open.
+// The own phrases of a plate, as lines at the front of `own`: those that are read before the first refusal. Nothing else changes there.
 pub fn read_own(plate: &[u8], index: &[u32], book: &[u8], own: &mut [u8]) -> Field
     requires { ⌜ (length (now plate) ≤ 2953) × Indexed (now index) (now book) × (2304 ≤ length (now own)) ⌝ }
     ensures { λ r. ⌜ ownRead (now (plate .entry)) (now (own .exit)) r ≡ ownPhrases (bookTexts (now (book .entry))) (placeAt (now (plate .entry)) 0) ⌝ }
     ensures { λ r. ⌜ OwnThere (now (own .exit)) r ⌝ }
+    ensures { λ r. ⌜ now (own .exit) ≡ pour 0 (ownLines (ownCounted (bookTexts (now (book .entry))) (ownCount (placeAt (now (plate .entry)) 0)))) (now (own .entry)) ⌝ }
 {
     let field = read_count(plate, 0);
     let Field::Is(count, next) = field else {

@@ -2,6 +2,7 @@
 ghost use mathlib.Core.Path.{_≡_};
 ghost use Prim.Native.Nat.{_≤_};
 ghost use lib.ListN.{length};
+ghost use Rattle.output.specs.Pour.{pour};
 ghost use Rattle.phrases.specs.Lookup.{bookTexts, phrasesIn};
 ghost use Rattle.phrases.specs.Index.{Indexed};
 ghost use Rattle.plate.specs.Plate.{resultOf, plateProgram};
@@ -10,6 +11,7 @@ ghost use Rattle.instructions.specs.TextsAt.{Lent};
 ghost use Rattle.reader.specs.declared.Contents as contents;
 ghost use Rattle.reader.specs.declared.PlateRead.the-variants as plates;
 ghost use Rattle.reader.specs.Holding.{programRead, Stands};
+ghost use Rattle.reader.specs.Own.{ownLines, ownStored};
 ghost use Rattle.reader.specs.Whole.{restOf};
 use crate::Contents;
 use crate::PlateRead;
@@ -55,12 +57,13 @@ fn read_rest(
     })
 }
 
-// What a plate holds. Its own phrases are the first lines of `own` afterwards; what stands there behind them, or where the plate is
-// refused, is open: `own` is scratch of the caller, with room for 32 lines of 72 bytes.
+// What a plate holds. Its own phrases, or those that are read before the reading stops, are the first lines of `own` afterwards; nothing
+// else changes there. `own` has room for 32 lines of 72 bytes.
 pub fn read_contents(plate: &[u8], index: &[u32], book: &[u8], own: &mut [u8]) -> PlateRead
     requires { ⌜ Indexed (now index) (now book) × (2304 ≤ length (now own)) ⌝ }
     ensures { λ r. ⌜ programRead (now (plate .entry)) (now (book .entry)) (now (own .exit)) r ≡ plateProgram (bookTexts (now (book .entry))) (now (plate .entry)) ⌝ }
     ensures { λ r. ⌜ ((c : contents.Contents) → r ≡ plates.Holds c → Stands (now (plate .entry)) (now (index .entry)) (now (book .entry)) (now (own .exit)) c) ⌝ }
+    ensures { λ r. ⌜ now (own .exit) ≡ pour 0 (ownLines (ownStored (bookTexts (now (book .entry))) (now (plate .entry)))) (now (own .entry)) ⌝ }
 {
     if 2953 < plate.len() {
         return PlateRead::Refused(Refusal {

@@ -9,3 +9,4 @@ pub mod Meeting
 pub mod Accepting
 pub mod Going
 pub mod Called
+pub mod Short

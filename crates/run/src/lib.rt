@@ -2,8 +2,8 @@
 // specs/Run.antt says what the run of a plate's instructions is; specs/Call.antt what the call answers and leaves in the lent buffer.
 // The book is checked, then the whole plate is read, and a refusal leaves the buffer as it was. The run goes from instruction to
 // instruction of the plate's bits. Jumps only go forward, so to skip is to read on: it keeps the bit of the next instruction, how many
-// are left, and how many of these are passed over. It is made twice: first on no buffer, to learn the transcript's length, and then on
-// the lent one. Scratch is tested for its length and left alone.
+// are left, and how many of these are passed over. A buffer that holds the longest transcript is written at once; else the run is made
+// twice: first on no buffer, to learn the transcript's length, and then on the lent one. Scratch is tested for its length and left alone.
 mod meet;
 mod passes;
 mod perform;

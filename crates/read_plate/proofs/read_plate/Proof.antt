@@ -49,7 +49,7 @@ slice-aggregate-write-2 c = search needs
 write-requires : tie.Need-write-requires
 write-requires c κs =
     let holds = c .before .before .before .before .contents .given .1 in (
-      c .before .before .before .before .before .before .before .read-contents .ensures .1 _ holds,
+      c .before .before .before .before .before .before .before .read-contents .ensures .1 .0 _ holds,
       listing-fits _ _ _ (sym (c .before .before .before .before .before .before .before .before .before .before .before .before .before .before .check-book .ensures .0) ∙ c .before .before .before .before .before .before .before .before .before .before .before .n .given .1) _ _ (c .before .before .before .before .before .before .before .read-contents .ensures .0) _ holds
           (λ i. omega (arith, c .before .before .before .before .before .before .before .before .before .before .before .before .before .before .before .before .before .before .shared-slice-known .given i)),
     )

@@ -73,7 +73,7 @@ write-requires c κs =
     let n = c .before .before .before .before .before .before .before .before .before .before .before .before in
     let book = sym (n .before .before .before .check-book .ensures .0) ∙ n .n .given .1 in
     let read = c .before .before .before .before .before .before .before .before in
-    accepted _ _ _ _ book _ (read .read-contents .ensures .0) _ _ (c .before .before .before .before .before .c .given .1) (read .read-contents .ensures .1)
+    accepted _ _ _ _ book _ (read .read-contents .ensures .0) _ _ (c .before .before .before .before .before .c .given .1) (read .read-contents .ensures .1 .0)
 
 returns-2 : tie.Need-returns-2
 returns-2 c =

@@ -21,20 +21,14 @@ put-inputs-requires c κs = let k = subst (Ready _ _ _ _) (c .before .before .i2
 enum-known-i-3 : tie.Need-enum-known-i-3
 enum-known-i-3 c = search needs
 
-slice-aggregate-put-text-line : tie.Need-slice-aggregate-put-text-line
-slice-aggregate-put-text-line c = search needs
-
-put-text-line-requires : tie.Need-put-text-line-requires
-put-text-line-requires c κs = search needs
+put-print-requires : tie.Need-put-print-requires
+put-print-requires c κs = search needs
 
 enum-known-i-4 : tie.Need-enum-known-i-4
 enum-known-i-4 c = search needs
 
-slice-aggregate-put-text-line-2 : tie.Need-slice-aggregate-put-text-line-2
-slice-aggregate-put-text-line-2 c = search needs
-
-put-text-line-requires-2 : tie.Need-put-text-line-requires-2
-put-text-line-requires-2 c κs = search needs
+put-printex-requires : tie.Need-put-printex-requires
+put-printex-requires c κs = search needs
 
 enum-known-i-5 : tie.Need-enum-known-i-5
 enum-known-i-5 c = search needs
@@ -67,14 +61,14 @@ same-length-3 c = search needs
 
 returns-3 : tie.Need-returns-3
 unfolding instructionAt
-returns-3 c = rw (c .before .before .before .before .before .before .i3 .given .1) (c .before .before .put-text-line .ensures)
+returns-3 c = rw (c .before .before .before .before .before .i3 .given .1) (c .before .before .put-print .ensures)
 
 same-length-4 : tie.Need-same-length-4
 same-length-4 c = search needs
 
 returns-4 : tie.Need-returns-4
 unfolding instructionAt
-returns-4 c = rw (c .before .before .before .before .before .before .i4 .given .1) (c .before .before .put-text-line2 .ensures)
+returns-4 c = rw (c .before .before .before .before .before .i4 .given .1) (c .before .before .put-printex .ensures)
 
 same-length-5 : tie.Need-same-length-5
 same-length-5 c = search needs
@@ -99,11 +93,9 @@ put-instruction-spec =
     enum-known-i-2
     put-inputs-requires
     enum-known-i-3
-    slice-aggregate-put-text-line
-    put-text-line-requires
+    put-print-requires
     enum-known-i-4
-    slice-aggregate-put-text-line-2
-    put-text-line-requires-2
+    put-printex-requires
     enum-known-i-5
     put-goto-requires
     enum-known-i-6

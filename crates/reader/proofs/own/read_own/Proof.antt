@@ -5,6 +5,7 @@ use Rattle.plate.proofs.OwnPhrases.{gives-count}
 use Rattle.fields.proofs.Onward.{then-got, then-stopped, got-good}
 use Rattle.fields.proofs.Answers.{field-got, field-refused}
 use Rattle.reader.specs.Own.{ownPhrases, ownRead}
+use Rattle.reader.proofs.OwnSoFar.{own-uncounted, own-counted}
 use Rattle.reader.proofs.OwnAnswers.{none-there}
 use Rattle.reader.proofs.own.read_own.Statement.{statement}
 use Rattle.reader.proofs.own.read_own.Tie as tie
@@ -23,7 +24,10 @@ unfolding ownPhrases
 returns c = (
   ap (ownRead _ _) (c .enum-told .given .1)
       ∙ then-stopped _ _ _ (field-refused _ _ (c .before .before .read-count .ensures) (c .enum-told .given .1)),
-  none-there _ _ (c .enum-told .given .1),
+  (
+    none-there _ _ (c .enum-told .given .1),
+    own-uncounted _ _ _ (field-refused _ _ (c .before .before .read-count .ensures) (c .enum-told .given .1)),
+  ),
 )
 
 read-phrases-requires : tie.Need-read-phrases-requires
@@ -44,7 +48,12 @@ returns-2 c = (
   c .before .before .read-phrases .ensures .0 ∙ then-got _ _ _
       (field-got _ _ (c .before .before .before .before .before .before .before .read-count .ensures)
       (c .before .before .before .before .before .field .given .1)),
-  c .before .before .read-phrases .ensures .1,
+  (
+    c .before .before .read-phrases .ensures .1 .0,
+    own-counted _ _ _ _ (c .before .before .read-phrases .ensures .1 .1)
+        (field-got _ _ (c .before .before .before .before .before .before .before .read-count .ensures)
+        (c .before .before .before .before .before .field .given .1)),
+  ),
 )
 
 pub read-own-spec : {M : Type 1} → statement M

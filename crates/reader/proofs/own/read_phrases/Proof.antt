@@ -9,7 +9,7 @@ use Rattle.fields.specs.Places.{refusalOf, sizeRead}
 use Rattle.fields.proofs.Answers.{answered, size-got}
 use Rattle.reader.specs.Own.{ownRead}
 use Rattle.reader.proofs.OwnAnswers.{none-there}
-use Rattle.reader.proofs.OwnSoFar.{OwnSoFar, own-start, own-there, own-ended, own-stopped, own-more}
+use Rattle.reader.proofs.OwnSoFar.{OwnSoFar, own-start, own-there, own-ended, own-stopped, own-more, own-left-stopped, own-left-ended}
 use Rattle.reader.proofs.own.read_phrases.Statement.{statement}
 use Rattle.reader.proofs.own.read_phrases.Tie as tie
 
@@ -39,7 +39,11 @@ returns c = let s = c .before .before .before .before .before .loop .inv in (
   ap (ownRead _ _) (c .enum-told .given .1)
       ∙ own-stopped (s .0) (omega arith) (search needs) (c .before .before .before .before .loop-test .taken)
       (answered (sizeRead _ _) refusalOf (c .before .before .read-spelled .ensures) (c .enum-told .given .1)),
-  none-there _ _ (c .enum-told .given .1),
+  (
+    none-there _ _ (c .enum-told .given .1),
+    own-left-stopped (s .0) (omega arith) (search needs) (c .before .before .before .before .loop-test .taken)
+        (answered (sizeRead _ _) refusalOf (c .before .before .read-spelled .ensures) (c .enum-told .given .1)),
+  ),
 )
 
 put-phrase-requires : tie.Need-put-phrase-requires Inv-loop μ-loop
@@ -65,8 +69,13 @@ same-length-2 c = kept _ _ _ _ _ (c .before .loop .inv .0 .written)
 
 returns-2 : tie.Need-returns-2 Inv-loop μ-loop
 returns-2 c = let s = c .before .loop .inv in
-    let e : c .before .loop .k ≡ c .before .before .before .before .before .before .args .count = omega arith in
-    (own-ended (s .0) (omega arith) (search needs) e, (search needs, rw e at (own-there (s .0) (omega arith) (search needs))))
+    let e : c .before .loop .k ≡ c .before .before .before .before .before .before .args .count = omega arith in (
+      own-ended (s .0) (omega arith) (search needs) e,
+      (
+        (search needs, rw e at (own-there (s .0) (omega arith) (search needs))),
+        own-left-ended (s .0) (omega arith) (search needs) e,
+      ),
+    )
 
 pub read-phrases-spec : {M : Type 1} → statement M
 read-phrases-spec =

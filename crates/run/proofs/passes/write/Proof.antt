@@ -1,35 +1,69 @@
--- `write` meets its contract: 11 where the buffer is too short, and else the whole transcript.
+-- `write` meets its contract: straight into a buffer that is long enough; else 11 where it is too short, or the whole transcript.
 use native.Mathlib.Omega.{arith}
-use Rattle.transcript.proofs.Passes.{too-short, whole}
+use Rattle.transcript.proofs.Passes.{too-short}
 use borrow.Author.Needs.{needs}
+use Rattle.run.proofs.Short.{straight, second}
 use Rattle.run.proofs.passes.write.Statement.{statement}
 use Rattle.run.proofs.passes.write.Tie as tie
 
-slice-aggregate-produce : tie.Need-slice-aggregate-produce
-slice-aggregate-produce c = search needs
+see-answers-requires : tie.Need-see-answers-requires
+see-answers-requires c κs = search needs
+
+mul-if1 : tie.Need-mul-if1
+mul-if1 c = omega (arith, c .before .before .before .before .before .before .pre .stands .few)
 
 produce-requires : tie.Need-produce-requires
 produce-requires c κs = search needs
 
-returns : tie.Need-returns
-returns c = too-short _ _ _ _ _ _ (c .before .before .produce .ensures .1) _ (c .if1 .taken)
-
-produce-requires-2 : tie.Need-produce-requires-2
-produce-requires-2 c κs = search needs
+report-of-requires : tie.Need-report-of-requires
+report-of-requires c κs = search needs
 
 same-length : tie.Need-same-length
 same-length c = search needs
 
+returns : tie.Need-returns
+returns c =
+    rw (c .report-of .ensures)
+    (straight _ _ _ _ _ (c .before .before .before .before .before .before .before .before .before .before .before .before .pre) (λ i. omega (arith, c .before .before .before .before .before .before .before .before .before .before .before .shared-slice-known .given i)) _ (c .before .before .before .before .before .before .see-answers .ensures) _ _ _ _
+    (c .before .before .before .produce .ensures .1) (c .before .before .before .before .before .if1 .taken) (omega (arith, c .before .before .before .before .before .before .before .before .before .before .before .before .good)))
+
+slice-aggregate-produce : tie.Need-slice-aggregate-produce
+slice-aggregate-produce c = search needs
+
+produce-requires-2 : tie.Need-produce-requires-2
+produce-requires-2 c κs = search needs
+
 returns-2 : tie.Need-returns-2
-returns-2 c = whole _ _ _ _ _ _ (c .before .before .before .before .before .before .before .produce .ensures .1) _ _ _ _ (c .before .before .before .produce2 .ensures .1) (c .before .before .before .before .before .if1 .left) (omega (arith, c .before .before .before .before .before .before .before .before .before .before .before .before .before .before .good))
+returns-2 c = too-short _ _ _ _ _ _ (c .before .before .produce2 .ensures .1) _ (c .if2 .taken)
+
+produce-requires-3 : tie.Need-produce-requires-3
+produce-requires-3 c κs = search needs
+
+report-of-requires-2 : tie.Need-report-of-requires-2
+report-of-requires-2 c κs = search needs
+
+same-length-2 : tie.Need-same-length-2
+same-length-2 c = search needs
+
+returns-3 : tie.Need-returns-3
+returns-3 c =
+    rw (c .report-of2 .ensures)
+    (second _ _ _ _ _ _ _ _ _ _ (c .before .before .before .before .before .before .before .produce2 .ensures .1) (c .before .before .before .produce3 .ensures .1) (c .before .before .before .before .before .if2 .left) (omega (arith, c .before .before .before .before .before .before .before .before .before .before .before .before .before .before .before .before .good)))
 
 pub write-spec : {M : Type 1} → statement M
 write-spec =
     tie.close
     (tie.spec
-    slice-aggregate-produce
+    see-answers-requires
+    mul-if1
     produce-requires
-    returns
-    produce-requires-2
+    report-of-requires
     same-length
-    returns-2)
+    returns
+    slice-aggregate-produce
+    produce-requires-2
+    returns-2
+    produce-requires-3
+    report-of-requires-2
+    same-length-2
+    returns-3)

@@ -1,7 +1,7 @@
 // The call `write_plate`: the plate of a listing, with a book.
 // The book is checked, then the listing, line by line, then each skip, and a refusal leaves the buffer as it was. Crate listing's
-// specs/Calls.antt says what the call answers and leaves in the lent buffer. The plate's bits are made twice: first on no buffer, to learn
-// how many there are, and then on the part of the lent one that they take, so that the bytes behind them stay.
+// specs/Calls.antt says what the call answers and leaves in the lent buffer. The plate is made in an array of the longest plate's length,
+// and copied to the front of the lent buffer, so that a plate that is refused leaves it as it was and the bytes behind a plate stay.
 
 mod passes;
 mod skips;

@@ -1,4 +1,4 @@
-// The plate in two passes.
+// The plate in one pass.
 ghost use mathlib.Core.Path.{_≡_};
 ghost use Prim.Native.Nat.{_≤_};
 ghost use lib.ListN.{length};
@@ -12,7 +12,6 @@ ghost use Rattle.writer.specs.Plates.{lentPlate};
 ghost use Rattle.write_plate.specs.Accepted.{AcceptedAs, programIn};
 use causes::Written;
 use lines::Form;
-use writer::Room;
 
 // The whole plate of an accepted listing, as far as the buffer goes, and how many bits it has.
 fn produce(
@@ -38,8 +37,7 @@ fn produce(
     writer::put_fill(out, end)
 }
 
-// The plate of an accepted listing whose skips stay within it: first on no buffer, to learn its length; then 10, 11, or the plate is
-// written.
+// The plate of an accepted listing whose skips stay within it, made in an array: 10, 11, or it is copied to the lent buffer.
 pub fn write(
     listing: &[u8],
     index: &[u32],
@@ -51,19 +49,7 @@ pub fn write(
     requires { ⌜ Indexed (now index) (now book) × AcceptedAs (now listing) own instructions ⌝ }
     ensures { λ r. ⌜ (writtenAnswer r, now (plate .exit)) ≡ lentPlate (bookTexts (now (book .entry))) (programIn (now (listing .entry)) own) (now (plate .entry)) ⌝ }
 {
-    let bits = produce(&mut [], index, book, listing, own, instructions);
-    match writer::plate_room(bits, plate.len()) {
-        Room::Refused(r) => Written::Refused(r),
-        Room::Bytes(length) => {
-            produce(
-                &mut plate[..length],
-                index,
-                book,
-                listing,
-                own,
-                instructions,
-            );
-            Written::Done(length)
-        }
-    }
+    let mut array = [0u8; 2953];
+    let bits = produce(&mut array, index, book, listing, own, instructions);
+    writer::lend(&array, bits, plate)
 }

@@ -3,3 +3,4 @@ pub mod TextBits
 pub mod Complements
 pub mod LineBits
 pub mod Plates
+pub mod LentPlates

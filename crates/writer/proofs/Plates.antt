@@ -100,15 +100,15 @@ front-octets (x ∷ a) b h (suc i) = front-octets a b (λ j. h (suc j)) i
 
 -- the first pass has counted r bits
 module _ (bs old : List Bool) {r : ℕ} {x : List Bool} (dry : (r, x) ≡ poured 0 (filled bs) old) (buffer : List ℕ) where
-  counted : r ≡ upTo (length (pack bs) * 8)
+  pub counted : r ≡ upTo (length (pack bs) * 8)
   counted = omega (arith, ended 0 (filled bs) old r x dry, length-pack bs, filled-whole bs)
 
   -- what a room leaves of the plate in the buffer
-  abbrev leaves : Result ℕ → Answer × List ℕ
+  abbrev pub leaves : Result ℕ → Answer × List ℕ
   leaves (made n) = (wrote n, pack bs ++ drop n buffer)
   leaves (refused cause place) = (refusing cause place, buffer)
 
-  by-room : written (plateSized (pack bs)) buffer ≡ leaves (plateRoom r (length buffer))
+  pub by-room : written (plateSized (pack bs)) buffer ≡ leaves (plateRoom r (length buffer))
   unfolding plateRoom
   by-room = go (leb (r / 8) 2953) refl
     where

@@ -1,10 +1,12 @@
 -- The plate of a program in a lent buffer, and the room that it takes there.
 use Prim.Native.Nat.{ℕ, _/_}
 use mathlib.Core.List.{List}
-use mathlib.Core.Bool.{cond}
+use mathlib.Core.Bool.{Bool, cond}
+use lib.ListN.{length}
 use lib.Dec.{leb}
 use Rattle.causes.specs.Answers.{Result, made, refused, _>>=_, Answer, output, lent}
 use Rattle.causes.specs.declared.Cause.the-variants.{PlateTooLong, TooShort}
+use Rattle.bits.specs.Bits.{bytesOf}
 use Rattle.text.specs.Text.{Text}
 use Rattle.plate.specs.Program.{Program}
 use Rattle.plate.specs.Writing.{plateBytes, plateSized}
@@ -25,3 +27,7 @@ plateRoom bits bytes =
 abbrev pub roomAnswer : Result ℕ → Room
 roomAnswer (made n) = Bytes n
 roomAnswer (refused cause place) = Refused (record { cause = cause; place = place })
+
+-- the plate of the first of these bits, so many, in a lent buffer: 10, then 11
+unfoldable pub lentBits : List Bool → ℕ → List ℕ → Answer × List ℕ
+lentBits bs bits buffer = lent (plateRoom bits (length buffer) >>= λ n. made (output (bytesOf n bs))) buffer

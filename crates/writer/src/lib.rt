@@ -1,5 +1,5 @@
-// The writer of a plate's bits, for the translator and the converter: own phrases, texts, constants and instructions; and the room that a
-// plate takes in a lent buffer.
+// The writer of a plate's bits, for the translator and the converter: own phrases, texts, constants and instructions; the room that a plate
+// takes in a lent buffer; and a plate that was made in an array, in a lent buffer.
 // Each writer stores its bits from the bit `at` of the lent buffer on, as far as the buffer goes, changes no other bit, and returns the
 // place behind its bits, with room or without: a pass over no buffer at all counts the bits. Its contract says which bits these are, by
 // crate plate's specs/Writing.antt, for a buffer of at most 2,953 bytes, the longest plate.
@@ -7,6 +7,7 @@
 // phrases, and a `count` up to that.
 mod constants;
 mod instructions;
+mod lent;
 mod listing;
 mod own;
 mod sizes;
@@ -20,6 +21,7 @@ pub use instructions::put_input;
 pub use instructions::put_inputs;
 pub use instructions::put_print;
 pub use instructions::put_printex;
+pub use lent::lend;
 pub use listing::put_line;
 pub use own::put_front;
 pub use own::put_own;

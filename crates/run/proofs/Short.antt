@@ -38,7 +38,8 @@ use Rattle.reader.specs.declared.Contents.{Contents}
 use Rattle.reader.specs.Holding.{instructionsAt, programAt}
 use Rattle.reader.proofs.Next.{there-length}
 use Rattle.run.specs.Run.{run}
-use Rattle.run.specs.Accepted.{Accepted, Ranged}
+use Rattle.transcript.specs.Ranged.{Ranged}
+use Rattle.run.specs.Accepted.{Accepted}
 
 -- ---- a line
 
@@ -127,26 +128,6 @@ run-grown (statement x ∷ xs) zero s h f = go (perform x s) (perform-grown x s 
     go (outside u) g rest = omega (arith, g .more)
 run-grown (goto skip ∷ xs) zero s h f = omega (arith, run-grown xs skip (step s) (h .1) f)
 run-grown (ifSkip test skip ∷ xs) zero s h f = omega (arith, run-grown xs (cond (holds test s) 0 skip) (step s) (h .1) f)
-
--- ---- the answers
-
-module _ (answers : List ℤ) where
-  abbrev pub RangedTo : ℕ → Type 0
-  RangedTo i = (j : ℕ) → j < i → mag (getD answers j (pos 0)) < 2147483648
-
-  pub ranged-more : (i : ℕ) → RangedTo i → mag (getD answers i (pos 0)) < 2147483648 → RangedTo (i + 1)
-  ranged-more i f h j l = go (leb i j) refl
-    where
-      go : (b : Bool) → leb i j ≡ b → mag (getD answers j (pos 0)) < 2147483648
-      go true e = let same : j ≡ i = omega (arith, leb-true i j e) in rw same h
-      go false e = f j (leb-false i j e)
-
-  pub ranged-all : (i : ℕ) → RangedTo i → length answers ≤ i → Ranged answers
-  ranged-all i f h = record { each = λ j. go j (leb i j) refl }
-    where
-      go : (j : ℕ) (b : Bool) → leb i j ≡ b → mag (getD answers j (pos 0)) < 2147483648
-      go j true e = rw (List·getD-eq-default answers (pos 0) {n = j} (omega (arith, leb-true i j e))) (omega arith)
-      go j false e = f j (leb-false i j e)
 
 -- ---- what is written
 

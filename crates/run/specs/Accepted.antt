@@ -1,10 +1,7 @@
--- A plate that was accepted, with its book, the instructions from a bit of it on, and the answers.
-use Prim.Native.Nat.{ℕ, _<_}
+-- A plate that was accepted, with its book, and the instructions from a bit of it on.
+use Prim.Native.Nat.{ℕ}
 use mathlib.Core.Path.{_≡_}
 use mathlib.Core.List.{List}
-use lib.ListN.{getD}
-use lib.IntN.{ℤ, pos}
-use lib.Signed.{mag}
 use Rattle.causes.specs.Answers.{made}
 use Rattle.phrases.specs.Book.{bookPhrases}
 use Rattle.phrases.specs.Lookup.{bookTexts, phrasesIn}
@@ -27,7 +24,3 @@ instructionsFrom plate book own count n bit = instructionsAt plate (phrasesIn bo
 abbrev pub Continues : List ℕ → List ℕ → List ℕ → ℕ → ℕ → ℕ → Type 0
 Continues plate book own count n bit =
     There (instruction (phrasesIn book own count)) plate n bit (instructionsFrom plate book own count n bit)
-
--- each answer is a signed number of 32 bits
-pub record Ranged (answers : List ℤ) : Type 0 where
-  pub each : (i : ℕ) → mag (getD answers i (pos 0)) < 2147483648

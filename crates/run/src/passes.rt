@@ -4,7 +4,6 @@ use causes::Cause;
 use causes::Outcome;
 use causes::Ran;
 use causes::Refusal;
-use causes::Report;
 use instructions::InstructionRead;
 use reader::Contents;
 use transcript::Performed;
@@ -12,15 +11,14 @@ ghost use mathlib.Core.Path.{_≡_};
 ghost use mathlib.Core.List.{List};
 ghost use lib.IntN.{ℤ};
 ghost use Prim.Native.Nat.{_+_, _≤_};
-ghost use Rattle.causes.specs.Answers.{made, lent, ended, ranAnswer};
-ghost use Rattle.causes.specs.Causes.{outcomeNumber};
+ghost use Rattle.causes.specs.Answers.{made, lent, ranAnswer};
 ghost use Rattle.causes.specs.declared.Outcome.the-variants.{End};
 ghost use Rattle.transcript.specs.State.{start};
 ghost use Rattle.transcript.specs.Perform.{report};
 ghost use Rattle.transcript.specs.Machine.{machineState, laid, performed};
 ghost use Rattle.reader.specs.Holding.{programAt};
 ghost use Rattle.run.specs.Run.{run};
-ghost use Rattle.run.specs.Accepted.{Accepted, Ranged, instructionsFrom, Continues};
+ghost use Rattle.run.specs.Accepted.{Accepted, instructionsFrom, Continues};
 
 // The run of n instructions from a bit on, behind what has been performed.
 fn run_from<'a>(
@@ -119,32 +117,6 @@ fn produce<'a>(
     )
 }
 
-// Each answer has 32 bits. The loop only shows this to the proof, and is compiled to nothing.
-fn see_answers(answers: &[i32])
-    ensures { λ _. ⌜ Ranged (now (answers .entry)) ⌝ }
-{
-    let mut i = 0;
-    while i < answers.len() {
-        let answer = answers[i];
-        i += 1;
-    }
-}
-
-// What is reported of a run.
-fn report_of(p: Performed) -> Ran
-    ensures { λ r. ⌜ ranAnswer r ≡ ended (p .end) (outcomeNumber (p .outcome)) (p .machine .taken) (p .machine .steps) ⌝ }
-{
-    let length = p.end;
-    let outcome = p.outcome;
-    let m = p.machine;
-    Ran::Done(Report {
-        length,
-        outcome,
-        taken: m.taken,
-        steps: m.steps,
-    })
-}
-
 // The run of an accepted plate. Straight, where the buffer holds 640 bytes for each instruction, which no transcript exceeds; else first on no
 // buffer, to learn the transcript's length, and then 11, or the transcript is written.
 pub fn write<'a>(
@@ -159,10 +131,10 @@ pub fn write<'a>(
     requires { ⌜ Accepted (now plate) (now index) (now book) (now own) c ⌝ }
     ensures { λ r. ⌜ (ranAnswer r, now (transcript .exit)) ≡ lent (made (report (run (programAt (now (plate .entry)) (now (book .entry)) (now (own .entry)) c .instructions) 0 (start (now (answers .entry)))))) (now (transcript .entry)) ⌝ }
 {
-    see_answers(answers);
+    transcript::see_answers(answers);
     let n = c.instructions;
     if n * 640 <= transcript.len() {
-        return report_of(produce(plate, index, book, own, c, answers, transcript));
+        return transcript::report_of(produce(plate, index, book, own, c, answers, transcript));
     }
     let p = produce(plate, index, book, own, c, answers, &mut []);
     let length = p.end;
@@ -172,5 +144,5 @@ pub fn write<'a>(
             place: 0,
         });
     }
-    report_of(produce(plate, index, book, own, c, answers, transcript))
+    transcript::report_of(produce(plate, index, book, own, c, answers, transcript))
 }

@@ -11,3 +11,4 @@ pub mod Answers
 pub mod Options
 pub mod Performs
 pub mod Passes
+pub mod Ranges

@@ -5,6 +5,7 @@
 // Any text, any answers and any buffer will do. A register is below 32, and one step more must still fit a 64-bit number.
 mod compare;
 mod lines;
+mod report;
 mod statements;
 
 use causes::Outcome;
@@ -17,6 +18,8 @@ pub use lines::put_offer;
 pub use lines::put_option;
 pub use lines::put_ruled;
 pub use lines::put_shown;
+pub use report::report_of;
+pub use report::see_answers;
 pub use statements::ask;
 pub use statements::choose;
 pub use statements::fresh;

@@ -36,7 +36,8 @@ use Rattle.lines.proofs.FieldsRead.{ReadAs, as-fault, as-phrase, as-input, as-i
 use Rattle.lines.proofs.FieldsRead.{as-if, as-else, as-fi, as-goto, as-if-skip, line-read-as}
 use Rattle.guide.specs.Lines.{roleOf, inBlock, beginsBy, firstRole, stops, openBehind, pass, bodyLines, linesAt}
 use Rattle.walk.specs.Descend.{Left, Walker, here, follow, next, atElse, behindTrue, leaveTrue, leaveElse, elseBlock, walkIf}
-use Rattle.walk.specs.Rooms.{Numbers}
+use Rattle.transcript.specs.Ranged.{Ranged}
+use Rattle.transcript.proofs.Ranges.{ranged-rest}
 use Rattle.walk.specs.Descend.{statementLine, statementWith, blockWith, descend, walkText}
 
 -- ---- what lines and answers still write
@@ -211,25 +212,16 @@ guide-room g = omega (arith, body-room (linesOf aGuide g), parts-room (split LF 
 
 -- ---- the answers
 
--- one more is read
-pub one-more : (answers : List ℤ) (i : ℕ) → ((j : ℕ) → j < i → mag (getD answers j (pos 0)) < 2147483648) → mag (getD answers i (pos 0)) < 2147483648
-    → (j : ℕ) → j < i + 1 → mag (getD answers j (pos 0)) < 2147483648
-one-more answers i h k j l = go (eqb j i) refl
-  where
-    go : (v : Bool) → eqb j i ≡ v → mag (getD answers j (pos 0)) < 2147483648
-    go true e = rw (eqb-true j i e) k
-    go false e = h j (omega (arith, eqb-false j i e))
-
-answers-room : (answers : List ℤ) → Numbers answers → answersRoom answers ≤ 14 * length answers
+answers-room : (answers : List ℤ) → Ranged answers → answersRoom answers ≤ 14 * length answers
 unfolding lineBytes join
 answers-room [] h = omega arith
 answers-room (a ∷ rest) h =
-    let one : length (lineBytes (answered a)) ≤ 14 = simp length-append (omega (arith, decimal-short a (h 0 (omega arith)))) in
-    omega (arith, answers-room rest (λ i l. h (suc i) (omega arith)))
+    let one : length (lineBytes (answered a)) ≤ 14 = simp length-append (omega (arith, decimal-short a (h .each 0))) in
+    omega (arith, answers-room rest (ranged-rest a rest h))
 
 -- ---- the whole walk
 
-text-room : (g : List ℕ) (answers : List ℤ) → Numbers answers
+text-room : (g : List ℕ) (answers : List ℤ) → Ranged answers
     → length (transcriptBytes (stateOf (walkText g answers) .transcript)) ≤ length g + 14 * length answers
 unfolding walkText start transcriptBytes
 text-room g answers h =
@@ -237,7 +229,7 @@ text-room g answers h =
 
 module _ (g : List ℕ) (answers rs : List ℤ) (p : Performed) (o out : List ℕ) (e : performed rs answers p o ≡ laid 0 (walkText g answers) out) where
   -- a buffer of so many bytes takes it
-  pub text-fits : Numbers answers → length g + 14 * length answers ≤ length out → p .end ≤ length out
+  pub text-fits : Ranged answers → length g + 14 * length answers ≤ length out → p .end ≤ length out
   text-fits h l =
       let new = transcriptBytes (stateOf (walkText g answers) .transcript) in
       omega (arith, ended 0 new out (p .end) o (lay-bytes rs answers p o 0 (walkText g answers) out e), text-room g answers h)

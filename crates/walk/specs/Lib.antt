@@ -3,4 +3,3 @@ pub mod Call
 pub mod Descend
 pub mod Leaves
 pub mod Says
-pub mod Rooms

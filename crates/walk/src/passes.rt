@@ -3,19 +3,16 @@ use crate::blocks::block;
 use causes::Cause;
 use causes::Ran;
 use causes::Refusal;
-use causes::Report;
 use transcript::Performed;
 ghost use mathlib.Core.Path.{_≡_};
 ghost use mathlib.Core.List.{List};
 ghost use lib.IntN.{ℤ};
-ghost use Rattle.causes.specs.Answers.{made, ended, lent, ranAnswer};
-ghost use Rattle.causes.specs.Causes.{outcomeNumber};
+ghost use Rattle.causes.specs.Answers.{made, lent, ranAnswer};
 ghost use Rattle.transcript.specs.Perform.{report};
 ghost use Rattle.transcript.specs.Machine.{laid, performed};
 ghost use Rattle.lines.specs.declared.Form.the-variants.{Guide as aGuide};
 ghost use Rattle.lines.specs.Clean.{Clean};
 ghost use Rattle.walk.specs.Descend.{walkText};
-ghost use Rattle.walk.specs.Rooms.{Numbers};
 
 // The walk over a guide's lines, with registers that are all 0 at first: the buffer takes as much of the transcript as it has room for.
 fn produce(guide: &[u8], answers: &[i32], out: &mut [u8]) -> Performed
@@ -36,31 +33,6 @@ fn produce(guide: &[u8], answers: &[i32], out: &mut [u8]) -> Performed
     w.left
 }
 
-// What is answered for a walk whose whole transcript is written.
-fn done(p: Performed) -> Ran
-    ensures { λ r. ⌜ ranAnswer r ≡ ended (p .end) (outcomeNumber (p .outcome)) (p .machine .taken) (p .machine .steps) ⌝ }
-{
-    let outcome = p.outcome;
-    let m = p.machine;
-    Ran::Done(Report {
-        length: p.end,
-        outcome,
-        taken: m.taken,
-        steps: m.steps,
-    })
-}
-
-// Every answer is read, and so known to be a number of 32 bits.
-fn read_all(answers: &[i32])
-    ensures { λ _. ⌜ Numbers (now (answers .entry)) ⌝ }
-{
-    let mut i = 0;
-    while i < answers.len() {
-        let answer = answers[i];
-        i += 1;
-    }
-}
-
 // The walk of an accepted guide. A buffer as long as the guide, with 14 bytes more for each answer, takes any transcript. Else the walk is
 // made on no buffer first, to learn the transcript's length; then 11, or the transcript is written.
 pub fn write(guide: &[u8], answers: &[i32], transcript: &mut [u8]) -> Ran
@@ -69,8 +41,8 @@ pub fn write(guide: &[u8], answers: &[i32], transcript: &mut [u8]) -> Ran
 {
     if answers.len() <= 65536 {
         if guide.len() + 14 * answers.len() <= transcript.len() {
-            read_all(answers);
-            return done(produce(guide, answers, transcript));
+            transcript::see_answers(answers);
+            return transcript::report_of(produce(guide, answers, transcript));
         }
     }
     let length = produce(guide, answers, &mut []).end;
@@ -80,5 +52,5 @@ pub fn write(guide: &[u8], answers: &[i32], transcript: &mut [u8]) -> Ran
             place: 0,
         });
     }
-    done(produce(guide, answers, transcript))
+    transcript::report_of(produce(guide, answers, transcript))
 }

@@ -12,20 +12,20 @@ mul-if2 c = search needs
 add-if2 : tie.Need-add-if2
 add-if2 c = search needs
 
-read-all-requires : tie.Need-read-all-requires
-read-all-requires c κs = search needs
+see-answers-requires : tie.Need-see-answers-requires
+see-answers-requires c κs = search needs
 
 produce-requires : tie.Need-produce-requires
 produce-requires c κs = search needs
 
-done-requires : tie.Need-done-requires
-done-requires c κs = search needs
+report-of-requires : tie.Need-report-of-requires
+report-of-requires c κs = search needs
 
 same-length : tie.Need-same-length
 same-length c = search needs
 
 returns : tie.Need-returns
-returns c = text-written _ _ _ _ _ _ (c .before .before .before .produce .ensures .1) _ (c .done .ensures) (text-fits _ _ _ _ _ _ (c .before .before .before .produce .ensures .1) (c .before .before .before .before .before .read-all .ensures) (omega arith)) (omega arith)
+returns c = text-written _ _ _ _ _ _ (c .before .before .before .produce .ensures .1) _ (c .report-of .ensures) (text-fits _ _ _ _ _ _ (c .before .before .before .produce .ensures .1) (c .before .before .before .before .before .see-answers .ensures) (omega arith)) (omega arith)
 
 slice-aggregate-produce : tie.Need-slice-aggregate-produce
 slice-aggregate-produce c = search needs
@@ -39,8 +39,8 @@ returns-2 c = too-short _ _ _ _ _ _ (c .before .before .produce2 .ensures .1) _ 
 produce-requires-3 : tie.Need-produce-requires-3
 produce-requires-3 c κs = search needs
 
-done-requires-2 : tie.Need-done-requires-2
-done-requires-2 c κs = search needs
+report-of-requires-2 : tie.Need-report-of-requires-2
+report-of-requires-2 c κs = search needs
 
 same-length-2 : tie.Need-same-length-2
 same-length-2 c = search needs
@@ -48,7 +48,7 @@ same-length-2 c = search needs
 returns-3 : tie.Need-returns-3
 returns-3 c =
     let e = text-ends _ _ _ _ _ _ (c .before .before .before .produce3 .ensures .1) _ _ _ _ (c .before .before .before .before .before .before .before .produce2 .ensures .1) in
-    text-written _ _ _ _ _ _ (c .before .before .before .produce3 .ensures .1) _ (c .done2 .ensures) (omega arith) (omega arith)
+    text-written _ _ _ _ _ _ (c .before .before .before .produce3 .ensures .1) _ (c .report-of2 .ensures) (omega arith) (omega arith)
 
 pub write-spec : {M : Type 1} → statement M
 write-spec =
@@ -56,15 +56,15 @@ write-spec =
     (tie.spec
     mul-if2
     add-if2
-    read-all-requires
+    see-answers-requires
     produce-requires
-    done-requires
+    report-of-requires
     same-length
     returns
     slice-aggregate-produce
     produce-requires-2
     returns-2
     produce-requires-3
-    done-requires-2
+    report-of-requires-2
     same-length-2
     returns-3)

@@ -1,5 +1,6 @@
 -- The statement of a line, from the line's head and fields.
 use Prim.Native.Nat.{ℕ}
+use native.Mathlib.Omega.{arith}
 use mathlib.Core.Path.{_≡_, refl, sym, ap, _∙_, subst}
 use mathlib.Core.List.{List, [], _∷_}
 use mathlib.Core.Bool.{Bool, true, false, false≢true}
@@ -62,7 +63,7 @@ same-statement (printex t) fs e = rw e
 
 head-says : (x : Statement) (fs : List (List ℕ)) → Fields (says x) fs → StatementOk x → Says (headOf (says x)) fs
 head-says (input r t) fs e v = v .0
-head-says (inputs r t options) fs e v = (v .0, sym (ap length (e .1)), v .3)
+head-says (inputs r t options) fs e v = (v .0, sym (ap length (e .1)), omega arith)
 head-says (print t) fs e v = tt
 head-says (printex t) fs e v = tt
 

@@ -1,22 +1,41 @@
--- The options of an inputs line, which are its fields from the fourth on, written one by one.
-use Prim.Native.Nat.{ℕ, _+_, _≤_, _<_}
-use native.Mathlib.Numerals.{add-one}
+-- The C line of an inputs line: behind its letter stand the line's own bytes, from the question on.
+use Prim.Native.Nat.{ℕ, _-_, _<_, _≤_}
+use native.Mathlib.Omega.{arith}
 use mathlib.Core.Path.{_≡_, sym, ap, _∙_}
 use mathlib.Core.List.{List, [], _∷_, _++_}
-use lib.ListN.{length, take, drop, getD}
-use lib.Seq.{take-suc, take-all, getD-drop}
-use Rattle.text.specs.Parts.{comma}
-use Rattle.text.specs.Text.{Text}
+use lib.ListN.{length, take, drop, getD, length-drop}
+use lib.Seq.{drop-cons, take-all}
+use Rattle.text.specs.Parts.{split, join, partsFrom, comma, LF}
+use Rattle.text.proofs.Places.{parts-none, parts-some}
+use Rattle.text.proofs.Splits.{join-split}
 use Rattle.output.specs.Pour.{poured}
-use Rattle.transcript.specs.Offered.{optionsBytes}
-use Rattle.transcript.proofs.Offers.{write-option}
+use Rattle.output.proofs.Pour.{then}
+use Rattle.transcript.specs.State.{offered, lineBytes}
+use Rattle.transcript.specs.Offered.{offerBytes}
 
-module _ (fs : List (List ℕ)) (i at x : ℕ) (out mid : List ℕ) (e : (x, mid) ≡ poured at (optionsBytes (take i (drop 3 fs))) out) where
-  pub write-next : (o : Text) (y : ℕ × List ℕ) → o ≡ getD fs (3 + i) [] → y ≡ poured x (comma ∷ o) mid → i < length (drop 3 fs)
-      → length out < 9223372036854775808 → y ≡ poured at (optionsBytes (take (i + 1) (drop 3 fs))) out
-  write-next o y p f h l =
-      let more : take (i + 1) (drop 3 fs) ≡ take i (drop 3 fs) ++ (o ∷ []) = rw (add-one, take-suc (drop 3 fs) i [] h, getD-drop 3 fs i [], p) in
-      write-option (take i (drop 3 fs)) o at x out mid y e f l ∙ ap (λ (os : List Text). poured at (optionsBytes os) out) (sym more)
+-- the question is the third field, which starts at a, and there are options behind it
+module _ (line : List ℕ) (a : ℕ) (e : drop 2 (split comma line) ≡ partsFrom comma a line) (n : 0 < length (drop 3 (split comma line))) where
+  pub question-there : a ≤ length line
+  question-there =
+      let more = length-drop 3 (split comma line) in
+      let some = length-drop 2 (split comma line) in
+      omega (arith, past)
+    where
+      past : length line < a → ⊥
+      past h = omega (arith, ap length (e ∙ parts-none comma line a h), length-drop 2 (split comma line), length-drop 3 (split comma line))
 
-  pub write-all : length (drop 3 fs) ≤ i → (x, mid) ≡ poured at (optionsBytes (drop 3 fs)) out
-  write-all h = e ∙ ap (λ (os : List Text). poured at (optionsBytes os) out) (take-all i (drop 3 fs) h)
+  bytes-are : drop a line ≡ join comma (getD (split comma line) 2 [] ∷ drop 3 (split comma line))
+  bytes-are =
+      sym (join-split comma (drop a line))
+      ∙ ap (join comma)
+      (sym (parts-some comma line a question-there)
+      ∙ sym e
+      ∙ drop-cons (split comma line) 2 [] (omega (arith, length-drop 3 (split comma line))))
+
+  pub write-line : (at x : ℕ) (out mid : List ℕ) (z : ℕ × List ℕ) → (x, mid) ≡ poured at (offerBytes (take (length line - a) (drop a line))) out
+      → z ≡ poured x (LF ∷ []) mid → length out < 9223372036854775808
+      → z ≡ poured at (lineBytes (offered (getD (split comma line) 2 []) (drop 3 (split comma line)))) out
+  unfolding lineBytes join
+  write-line at x out mid z f g h =
+      then at (offerBytes (take (length line - a) (drop a line))) (LF ∷ []) out x mid z f g h
+      ∙ ap (λ (b : List ℕ). poured at (offerBytes b ++ (LF ∷ [])) out) (take-all (length line - a) (drop a line) (simp length-drop (omega arith)) ∙ bytes-are)

@@ -1,5 +1,5 @@
 -- The statement of a line, by the line's head and fields.
-use Prim.Native.Nat.{ℕ, _<_, _≤_}
+use Prim.Native.Nat.{ℕ, _<_}
 use mathlib.Core.Path.{_≡_}
 use mathlib.Core.List.{List, []}
 use mathlib.Core.Bool.{Bool, true, false}
@@ -24,10 +24,10 @@ statementBy (head.Goto k) fs = print []
 statementBy (head.IfSkip test k) fs = print []
 statementBy (head.Faulty c) fs = print []
 
--- a statement's head: its register is one of the 32, and its options are so many, at most 8
+-- a statement's head: its register is one of the 32, and its options are so many, at least one
 abbrev pub Says : Head → List (List ℕ) → Type 0
 Says (head.Input r) fs = r < 32
-Says (head.Inputs r n) fs = (r < 32) × (n ≡ length (drop 3 fs)) × (n ≤ 8)
+Says (head.Inputs r n) fs = (r < 32) × (n ≡ length (drop 3 fs)) × (0 < n)
 Says head.Print fs = Unit
 Says head.Printex fs = Unit
 Says head.Phrase fs = ⊥

@@ -4,31 +4,15 @@ use transcript::Machine;
 use transcript::Performed;
 ghost use mathlib.Core.Path.{_≡_};
 ghost use mathlib.Core.List.{[]};
-ghost use Prim.Native.Nat.{_+_, _<_, _≤_};
+ghost use Prim.Native.Nat.{_+_, _<_};
 ghost use lib.ListN.{length, drop, getD};
 ghost use Rattle.text.specs.Parts.{split, comma};
-ghost use Rattle.output.specs.Pour.{poured};
 ghost use Rattle.transcript.specs.Statement.{inputs};
 ghost use Rattle.transcript.specs.Perform as statement;
 ghost use Rattle.transcript.specs.Machine.{machineState, laid, performed};
-ghost use Rattle.transcript.specs.Offered.{optionsBytes};
 ghost use Rattle.walk.specs.Says.{statementBy, Says};
 
-// The options of an inputs line, of which there are so many.
-fn put_options(line: &[u8], options: usize, out: &mut [u8], at: usize) -> usize
-    requires { ⌜ (options ≡ length (drop 3 (split comma (now line)))) × (options ≤ 8) ⌝ }
-    ensures { λ r. ⌜ (r, now (out .exit)) ≡ poured at (optionsBytes (drop 3 (split comma (now (line .entry))))) (now (out .entry)) ⌝ }
-{
-    let mut end = at;
-    let mut i = 0;
-    while i < options {
-        end = transcript::put_option(out, end, text::part(line, b',', 3 + i));
-        i += 1;
-    }
-    end
-}
-
-// inputs: the question with its options, and the answer.
+// inputs: the question with its options, which stand in the line as they do in the C line, and the answer.
 fn offer(
     line: &[u8],
     register: usize,
@@ -39,12 +23,12 @@ fn offer(
     at: usize,
     m: Machine,
 ) -> Performed
-    requires { ⌜ (register < 32) × (options ≡ length (drop 3 (split comma (now line)))) × (options ≤ 8) × (m .steps < 18446744073709551615) ⌝ }
+    requires { ⌜ (register < 32) × (options ≡ length (drop 3 (split comma (now line)))) × (0 < options) × (m .steps < 18446744073709551615) ⌝ }
     ensures { λ r. ⌜ performed (now (registers .exit)) (now (answers .entry)) r (now (out .exit)) ≡ laid at (statement.perform (inputs register (getD (split comma (now (line .entry))) 2 []) (drop 3 (split comma (now (line .entry))))) (machineState (now (registers .entry)) (now (answers .entry)) m)) (now (out .entry)) ⌝ }
     ensures { λ r. ⌜ r .machine .steps ≡ m .steps + 1 ⌝ }
 {
-    let end = transcript::put_offer(out, at, text::part(line, b',', 2));
-    let end = put_options(line, options, out, end);
+    let a = text::part_start(line, b',', 2);
+    let end = transcript::put_offer(out, at, &line[a..]);
     let end = transcript::put_end(out, end);
     transcript::choose(out, end, registers, register, options, answers, m)
 }

@@ -5,6 +5,7 @@ use causes::Outcome;
 use causes::Ran;
 use causes::Refusal;
 use instructions::InstructionRead;
+use instructions::accepted_instruction;
 use reader::Contents;
 use transcript::Performed;
 ghost use mathlib.Core.Path.{_≡_};
@@ -44,15 +45,7 @@ fn run_from<'a>(
     let mut over = 0;
     while 0 < left {
         // Never refused: the whole plate has been read.
-        let read = instructions::accepted_instruction(
-            plate,
-            bit,
-            left - 1,
-            index,
-            book,
-            own,
-            count,
-        );
+        let read = accepted_instruction(plate, bit, left - 1, index, book, own, count);
         let InstructionRead::Is(i, next) = read else {
             return p;
         };

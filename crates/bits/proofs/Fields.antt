@@ -35,13 +35,13 @@ pub first-bits : (n t v : ℕ) → t ≤ n → take t (bitsOf n v) ≡ bitsOf t 
 first-bits n t v h = rw (bits-cut n t v h) (take-at _ _ t (length-bitsOf t _))
 
 -- higher bits of the number do not count
-low-bits : (w v : ℕ) → bitsOf w (v % 2 ^ w) ≡ bitsOf w v
+pub low-bits : (w v : ℕ) → bitsOf w (v % 2 ^ w) ≡ bitsOf w v
 low-bits w v =
     same-value _ _ (length-bitsOf w _ ∙ sym (length-bitsOf w v))
     (value-of-low-bits w (v % 2 ^ w) ∙ mod-mod v (2 ^ w) ∙ sym (value-of-low-bits w v))
 
 -- a number of two parts has the bits of both
-bits-join : (h l hi lo : ℕ) → lo < 2 ^ l → bitsOf (h + l) (hi * 2 ^ l + lo) ≡ bitsOf h hi ++ bitsOf l lo
+pub bits-join : (h l hi lo : ℕ) → lo < 2 ^ l → bitsOf (h + l) (hi * 2 ^ l + lo) ≡ bitsOf h hi ++ bitsOf l lo
 bits-join h l hi lo small =
     rw (bits-split h l (hi * 2 ^ l + lo), high hi l small, ← low-bits l (hi * 2 ^ l + lo), low hi l small) refl
 
@@ -75,21 +75,21 @@ replaced-below h t l v x below =
     let top : v / 2 ^ l / 2 ^ t < 2 ^ h = shr-lt h t (shr-lt (h + t) l below) in
     rw (pow-add 2 (h + t) l, pow-add 2 h t) (digits-lt (digits-lt top (mod-lt x (pow-pos t))) (mod-lt v (pow-pos l)))
 
--- the same for `size` bits of a byte from the bit `bit` on, with the powers of two as numbers at hand
-module _ (bit size unit values : ℕ) (fits : bit + size ≤ 8) (eu : unit ≡ 2 ^ (8 - bit - size)) (ev : values ≡ 2 ^ size) where
-  parts : bit + size + (8 - bit - size) ≡ 8
+-- the same for `size` bits of n, from the bit `bit` on, with the powers of two as numbers at hand
+module _ (n bit size unit values : ℕ) (fits : bit + size ≤ n) (eu : unit ≡ 2 ^ (n - bit - size)) (ev : values ≡ 2 ^ size) where
+  parts : bit + size + (n - bit - size) ≡ n
   parts = omega arith
 
-  pub byte-field : (b : ℕ) → b / unit % values ≡ valueOf (take size (drop bit (bitsOf 8 b)))
-  byte-field b = rw (eu, ev, ← field-value bit size (8 - bit - size) b, parts) refl
+  pub field-at : (b : ℕ) → b / unit % values ≡ valueOf (take size (drop bit (bitsOf n b)))
+  field-at b = rw (eu, ev, ← field-value bit size (n - bit - size) b, parts) refl
 
-  pub byte-replaced : (b x : ℕ) → bitsOf 8 ((b / unit / values * values + x % values) * unit + b % unit) ≡ pour bit (bitsOf size x) (bitsOf 8 b)
-  byte-replaced b x = rw (eu, ev) (rw parts at (field-replaced bit size (8 - bit - size) b x))
+  pub field-set : (b x : ℕ) → bitsOf n ((b / unit / values * values + x % values) * unit + b % unit) ≡ pour bit (bitsOf size x) (bitsOf n b)
+  field-set b x = rw (eu, ev) (rw parts at (field-replaced bit size (n - bit - size) b x))
 
-  -- the new byte is a byte, and its part above the lowest bits is not larger
-  pub byte-below : (b x : ℕ) → b < 256
+  -- the new number has n bits, and its part above the lowest bits is not larger
+  pub field-below : (b x : ℕ) → b < 2 ^ n
       → (b / unit / values * values + x % values ≤ (b / unit / values * values + x % values) * unit)
-      × ((b / unit / values * values + x % values) * unit + b % unit < 256)
-  byte-below b x h =
+      × ((b / unit / values * values + x % values) * unit + b % unit < 2 ^ n)
+  field-below b x h =
       rw (eu, ev)
-      (le-mul-of-pos-right _ (pow-pos (8 - bit - size)), rw parts at (replaced-below bit size (8 - bit - size) b x (rw parts h)))
+      (le-mul-of-pos-right _ (pow-pos (n - bit - size)), rw parts at (replaced-below bit size (n - bit - size) b x (rw parts h)))

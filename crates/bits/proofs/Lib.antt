@@ -5,3 +5,4 @@ pub mod Turns
 pub mod Words
 pub mod Reading
 pub mod Writing
+pub mod WordWriting

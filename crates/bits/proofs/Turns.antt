@@ -1,11 +1,11 @@
 -- A turn of reading and a turn of writing: bits within one byte, and what they make of the whole.
-use Prim.Native.Nat.{ℕ, zero, suc, _+_, _-_, _*_, _/_, _%_, _^_, _≤_, _<_}
+use Prim.Native.Nat.{ℕ, zero, suc, _+_, _-_, _*_, _/_, _^_, _≤_, _<_}
 use mathlib.Core.Path.{_≡_, sym, ap, _∙_}
 use mathlib.Core.List.{List, [], _∷_, _++_}
 use mathlib.Core.Bool.{Bool}
-use native.Mathlib.Nat.{div-one, zero-add, zero-mul, add-mul, mul-assoc, add-assoc, add-sub-of-le, le-mul-of-pos-right}
+use native.Mathlib.Nat.{zero-add, zero-mul, add-mul, mul-assoc, add-assoc, add-sub-of-le, le-mul-of-pos-right}
 use native.Mathlib.Omega.{arith}
-use lib.ListN.{length, take, drop, getD, set, length-drop, length-set}
+use lib.ListN.{length, take, drop, getD, set, length-drop}
 use lib.Seq.{take-add, drop-drop, length-take-le, drop-cons, take-append-le, drop-append-le}
 use lib.Pow.{pow-add, pow-pos, pow-mono}
 use Rattle.output.specs.Pour.{pour}
@@ -108,34 +108,3 @@ pub write-end : {old : List ℕ} {at width value : ℕ} {out : List ℕ} {place 
     → left ≡ 0 → bytesBits out ≡ pour at (bitsOf width value) (bytesBits old)
 unfolding bitsOf
 write-end {out = out} {place = place} p e = sym (pour-none place (bytesBits out)) ∙ rw e at (p .whole)
-
--- bits that lie in one byte
-pub one-written : (old : List ℕ) (at width value b : ℕ) → bitsOf 8 b ≡ pour (at % 8) (bitsOf width value) (bitsOf 8 (getD old (at / 8) 0))
-    → at / 8 < length old → at % 8 + width ≤ 8 → bytesBits (set old (at / 8) b) ≡ pour at (bitsOf width value) (bytesBits old)
-one-written old at width value b e h k =
-    let place : at / 8 * 8 + at % 8 ≡ at = omega arith in
-    rw place at (byte-written old (at / 8) (at % 8) b (bitsOf width value) e h (omega (arith, length-bitsOf width value)))
-
--- bits that lie in two bytes
-module _ (old : List ℕ) (at width value first second power b d : ℕ) (ef : first ≡ 8 - at % 8) (es : second ≡ width - first)
-    (more : 8 < at % 8 + width) (few : second ≤ 8) (there : at / 8 + 1 < length old) (ep : power ≡ 2 ^ second)
-    (eb : bitsOf 8 b ≡ pour (8 - first) (bitsOf first (value / power)) (bitsOf 8 (getD old (at / 8) 0)))
-    (ed : bitsOf 8 d ≡ pour 0 (bitsOf second value) (bitsOf 8 (getD (set old (at / 8) b) (at / 8 + 1) 0))) where
-  first-written : PartWritten old at width value (set old (at / 8) b) ((at / 8 + 1) * 8 + 0) (width - first)
-  first-written =
-      let bit : 8 - first ≡ at % 8 = omega arith in
-      let start = write-start old at width value (at / 8 * 8 + at % 8) (omega arith) in
-      write-turn (at / 8) (at % 8) width first power b ((at / 8 + 1) * 8 + 0) start (ep ∙ ap (λ n. 2 ^ n) es) (rw bit at eb)
-      (omega arith) (omega arith) (omega arith) (omega arith)
-
-  pub two-written : bytesBits (set (set old (at / 8) b) (at / 8 + 1) d) ≡ pour at (bitsOf width value) (bytesBits old)
-  two-written =
-      let none : width - first - second ≡ 0 = omega arith in
-      let whole : bitsOf 8 d ≡ pour 0 (bitsOf second (value / 1)) (bitsOf 8 (getD (set old (at / 8) b) (at / 8 + 1) 0)) =
-      rw (div-one value) ed in
-      let size = length-set old (at / 8) b in
-      let last =
-      write-turn (at / 8 + 1) 0 (width - first) second 1 d ((at / 8 + 1) * 8 + second) first-written (ap (λ n. 2 ^ n) (sym none)) whole
-      (omega arith) (omega arith) (omega arith) (omega arith)
-      in
-      write-end last none

@@ -136,22 +136,39 @@ fn put_room(out: &mut [u8], at: usize, width: usize, value: usize)
     store(out, at, count, value / two_to(width - count));
 }
 
-// The same, where the first byte is there and the bits go on behind it: most end in the second.
-fn put_bytes(out: &mut [u8], at: usize, width: usize, value: usize)
-    requires { ⌜ (width ≤ 32) × (at / 8 < length (now out)) × (8 < at % 8 + width) ⌝ }
+// The number of four bytes with the lowest `width` bits of another in place of its own, from the bit `bit` on.
+fn with_bits(word: usize, bit: usize, width: usize, value: usize) -> usize
+    requires { ⌜ (bit + width ≤ 32) × (word < 4294967296) ⌝ }
+    ensures { λ r. ⌜ (bitsOf 32 r ≡ pour bit (bitsOf width value) (bitsOf 32 word)) × (r < 4294967296) ⌝ }
+{
+    let unit = two_to(32 - bit - width);
+    let values = two_to(width);
+    (word / unit / values * values + value % values) * unit + word % unit
+}
+
+// The number of four bytes, stored from a byte on.
+fn store_word(out: &mut [u8], index: usize, word: usize)
+    requires { ⌜ (index + 3 < length (now out)) × (word < 4294967296) ⌝ }
+    ensures { λ _. ⌜ bytesBits (now (out .exit)) ≡ pour (index * 8) (bitsOf 32 word) (bytesBits (now (out .entry))) ⌝ }
+{
+    out[index] = (word / 16777216) as u8;
+    out[index + 1] = (word / 65536 % 256) as u8;
+    out[index + 2] = (word / 256 % 256) as u8;
+    out[index + 3] = (word % 256) as u8;
+}
+
+// As `put_room`. Up to 25 bits lie in four bytes, which are read and stored as one number.
+fn put_word(out: &mut [u8], at: usize, width: usize, value: usize)
+    requires { ⌜ width ≤ 32 ⌝ }
     ensures { λ _. ⌜ bytesBits (now (out .exit)) ≡ pour at (bitsOf width value) (bytesBits (now (out .entry))) ⌝ }
 {
     let index = at / 8;
-    let first = 8 - at % 8;
-    let second = width - first;
-    if second <= 8 {
-        if index + 1 < out.len() {
-            out[index] = with_field(out[index], 8 - first, first, value / two_to(second));
-            out[index + 1] = with_field(out[index + 1], 0, second, value);
+    if width <= 25 {
+        if index + 3 < out.len() {
+            let old = word(out, index);
+            store_word(out, index, with_bits(old, at % 8, width, value));
             return;
         }
-        put_room(out, at, width, value);
-        return;
     }
     put_room(out, at, width, value);
 }
@@ -162,15 +179,9 @@ pub fn put_bits(out: &mut [u8], at: usize, width: usize, value: usize) -> usize
     ensures { λ r. ⌜ (r, bytesBits (now (out .exit))) ≡ poured at (bitsOf width value) (bytesBits (now (out .entry))) ⌝ }
 {
     let end = output::sum(at, width);
-    let index = at / 8;
-    if out.len() <= index {
+    if out.len() <= at / 8 {
         return end;
     }
-    let bit = at % 8;
-    if bit + width <= 8 {
-        out[index] = with_field(out[index], bit, width, value);
-    } else {
-        put_bytes(out, at, width, value);
-    }
+    put_word(out, at, width, value);
     end
 }

@@ -1,6 +1,6 @@
 -- `bits::field` meets its contract: a quotient and a remainder by powers of two are the bits between them. Assumes nothing.
 use borrow.Author.Needs.{needs}
-use Rattle.bits.proofs.Fields.{byte-field}
+use Rattle.bits.proofs.Fields.{field-at}
 use Rattle.bits.proofs.field.Statement.{statement}
 use Rattle.bits.proofs.field.Tie as tie
 
@@ -25,7 +25,7 @@ rem-result c = search needs
 returns : tie.Need-returns
 returns c =
     let a = c .before .before .args in
-    byte-field (a .bit) (a .size) _ _ (search needs) (c .before .two-to .ensures .0) (c .two-to2 .ensures .0) (a .byte)
+    field-at 8 (a .bit) (a .size) _ _ (search needs) (c .before .two-to .ensures .0) (c .two-to2 .ensures .0) (a .byte)
 
 pub field-spec : {M : Type 1} → statement M
 field-spec =

@@ -2,7 +2,7 @@
 use Prim.Native.Nat.{ℕ, _+_, _*_, _/_, _%_, _≤_, _<_}
 use native.Mathlib.Omega.{arith}
 use borrow.Author.Needs.{needs}
-use Rattle.bits.proofs.Fields.{byte-replaced, byte-below}
+use Rattle.bits.proofs.Fields.{field-set, field-below}
 use Rattle.bits.proofs.with_field.Statement.{statement}
 use Rattle.bits.proofs.with_field.Tie as tie
 
@@ -19,7 +19,7 @@ module _ (c : tie.After-two-to2) where
   -- the new byte is a byte, and so nothing on the way to it is too large
   below : (upper ≤ upper * unit) × (upper * unit + start .args .byte % unit < 256)
   below =
-      byte-below (start .args .bit) (start .args .size) _ _ (search needs) (c .before .two-to .ensures .0) (c .two-to2 .ensures .0)
+      field-below 8 (start .args .bit) (start .args .size) _ _ (search needs) (c .before .two-to .ensures .0) (c .two-to2 .ensures .0)
       (start .args .byte) (start .args .value) (omega arith)
 
 sub-two-to : tie.Need-sub-two-to
@@ -64,7 +64,7 @@ cast-result c = omega (arith, below c)
 returns : tie.Need-returns
 returns c =
     let a = c .before .before .args in
-    byte-replaced (a .bit) (a .size) _ _ (search needs) (c .before .two-to .ensures .0) (c .two-to2 .ensures .0) (a .byte) (a .value)
+    field-set 8 (a .bit) (a .size) _ _ (search needs) (c .before .two-to .ensures .0) (c .two-to2 .ensures .0) (a .byte) (a .value)
 
 pub with-field-spec : {M : Type 1} → statement M
 with-field-spec =

@@ -27,7 +27,7 @@ use Rattle.fields.proofs.Onward.{then-got, then-stopped, judged-alike, got-good
 
 -- ---- the number of the book's phrases
 
-pub book-count : {plate index book own : List ℕ} {count : ℕ} → Lent plate index book own count → length index ≡ length (bookTexts book)
+pub book-count : {plate index book own : List ℕ} {count : ℕ} → Lent plate index book own count → getD index 0 0 ≡ length (bookTexts book)
 book-count {plate} {index} {book} l = sym (indexed-count index book (l .indexed))
 
 -- ---- the place

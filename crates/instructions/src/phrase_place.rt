@@ -1,7 +1,7 @@
 // A phrase by its place: in the book, or among the own phrases.
 ghost use mathlib.Core.Path.{_≡_};
 ghost use Prim.Native.Nat.{_+_, _≤_, _<_};
-ghost use lib.ListN.{length};
+ghost use lib.ListN.{length, getD};
 ghost use lib.Dec.{ltb};
 ghost use Rattle.causes.specs.declared.Cause.the-variants.{Unused};
 ghost use Rattle.phrases.specs.Phrases.{width};
@@ -44,10 +44,10 @@ pub fn read_phrase(
     own: &[u8],
     count: usize,
 ) -> TextRead
-    requires { ⌜ Lent (now plate) (now index) (now book) (now own) count × (0 < length (now index) + count) ⌝ }
+    requires { ⌜ Lent (now plate) (now index) (now book) (now own) count × (0 < getD (now index) 0 0 + count) ⌝ }
     ensures { λ r. ⌜ textsRead (now (plate .entry)) (now (book .entry)) (now (own .entry)) r ≡ phrase (bookTexts (now (book .entry))) (ownTexts count (now (own .entry))) (placeAt (now (plate .entry)) at) ⌝ }
 {
-    let texts = index.len();
+    let texts = phrases::count_of(index);
     if texts == 0 {
         return phrase_of(read_place(plate, at, count), true);
     }

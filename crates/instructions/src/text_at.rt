@@ -60,7 +60,7 @@ pub fn read_text(
     requires { ⌜ Lent (now plate) (now index) (now book) (now own) count × Known known (reader.text (phrasesIn (now book) (now own) count) (placeAt (now plate) at)) ⌝ }
     ensures { λ r. ⌜ textsRead (now (plate .entry)) (now (book .entry)) (now (own .entry)) r ≡ reader.text (phrasesIn (now (book .entry)) (now (own .entry)) count) (placeAt (now (plate .entry)) at) ⌝ }
 {
-    let field = read_code(plate, at, index.len() + count);
+    let field = read_code(plate, at, phrases::count_of(index) + count);
     let Field::Is(code, bit) = field else {
         return TextRead::Refused(field.refusal());
     };

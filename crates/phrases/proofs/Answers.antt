@@ -10,6 +10,7 @@ use Rattle.text.specs.Text.{Text}
 use Rattle.phrases.specs.Phrases.{Phrases, Where, inBook, inOwn, nowhere, place, find}
 use Rattle.phrases.specs.Book.{bookPhrases}
 use Rattle.phrases.specs.Lookup.{bookTexts, bookAnswer, placeAnswer, foundAnswer}
+use Rattle.phrases.specs.Index.{bookCheck}
 use Rattle.phrases.specs.declared.Book as book
 use Rattle.phrases.specs.declared.Book.the-variants.{Holds, Bad}
 use Rattle.phrases.specs.declared.Found.{Found}
@@ -52,6 +53,10 @@ found-is c t h = go (find c t) ∙ ap whereOf h
 abbrev pub resultOf : List Text → book.Book → Result (List Text)
 resultOf ts (Holds n) = made ts
 resultOf ts (Bad line) = refused Book line
+
+-- the check's answer, beside the index that it leaves
+pub answer-is : (b index : List ℕ) {last : List ℕ} {r : book.Book} → (r, last) ≡ bookCheck b index → r ≡ bookAnswer (bookPhrases b)
+answer-is b index e = ap (λ (p : book.Book × List ℕ). p .0) e
 
 module _ (b : List ℕ) where
   pub book-is : {r : book.Book} → bookAnswer (bookPhrases b) ≡ r → bookPhrases b ≡ resultOf (bookTexts b) r

@@ -7,5 +7,8 @@ pub mod Search
 pub mod Checked
 pub mod Texts
 pub mod Answers
+mod Heads
+mod Keys
 pub mod Entries
+mod Entered
 mod Weights

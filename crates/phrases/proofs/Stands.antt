@@ -42,7 +42,7 @@ place-stands (p ∷ ps) t = go (same t p) refl (place ps t) (place-stands ps t)
     go false e none h = tt
     go false e (some i) h = (omega arith, h .1)
 
-not-first : (b : Bool) (o : Option ℕ) → cond b (some 0) (oneMore o) ≡ none → (b ≡ false) × (o ≡ none)
+pub not-first : (b : Bool) (o : Option ℕ) → cond b (some 0) (oneMore o) ≡ none → (b ≡ false) × (o ≡ none)
 not-first true o h = absurd (Option·some-ne-none _ h)
 not-first false none h = (refl, refl)
 not-first false (some i) h = absurd (Option·some-ne-none _ h)

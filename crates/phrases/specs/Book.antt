@@ -32,3 +32,14 @@ phrasesFrom earlier (t ∷ u ∷ ts) =
 -- the phrases of a book, or cause 1 with its first bad line
 unfoldable pub bookPhrases : List ℕ → Result (List Text)
 bookPhrases book = phrasesFrom [] (split LF book)
+
+-- the good lines in front of the first bad one, behind earlier good ones
+unfoldable pub goodFrom : List Text → List Text → List Text
+goodFrom earlier [] = earlier
+goodFrom earlier (t ∷ []) = earlier
+goodFrom earlier (t ∷ u ∷ ts) =
+    elim (isNext earlier t) [ true ↦ goodFrom (earlier ++ (t ∷ [])) (u ∷ ts) | false ↦ earlier ]
+
+-- the texts of a book's lines in front of its first bad one: all of them where it has none
+unfoldable pub goodTexts : List ℕ → List Text
+goodTexts book = goodFrom [] (split LF book)

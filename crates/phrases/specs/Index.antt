@@ -1,11 +1,19 @@
--- An index of a book, which the code makes while it checks the book: for each text, in order, a key of the text and the place where the
--- text starts. A text is then compared only with those of its key. Document 01 says nothing of it: what is found does not depend on it.
-use Prim.Native.Nat.{ℕ, suc, _+_, _*_, _%_, _≤_, _<_}
+-- An index of a book's texts, which the code makes while it checks the book. Document 01 says nothing of it: what is found does not depend
+-- on it. A text has a key, and its key names one of 128 lists. The texts are numbered from 1 here, and 0 is no text. An index is a list of
+-- numbers: how many texts there are; the last text of each list; and an entry for each text, with the place where the text starts, the text
+-- of its list before it, and a part of its key. So a text is compared only with those of its list that have its part of the key.
+use Prim.Native.Nat.{ℕ, zero, suc, _+_, _*_, _/_, _%_, _≤_, _<_}
 use mathlib.Core.Path.{_≡_}
-use mathlib.Core.List.{List, [], _∷_}
-use lib.ListN.{length, take}
+use mathlib.Core.List.{List, [], _∷_, _++_}
+use mathlib.Core.Bool.{false, cond}
+use lib.ListN.{length, take, getD}
+use lib.Dec.{eqb}
+use Rattle.text.specs.Parts.{same}
 use Rattle.text.specs.Text.{Text}
-use Rattle.phrases.specs.Lookup.{bookTexts, ownTexts}
+use Rattle.output.specs.Pour.{pour}
+use Rattle.phrases.specs.Book.{bookPhrases, goodTexts}
+use Rattle.phrases.specs.Lookup.{bookTexts, ownTexts, bookAnswer}
+use Rattle.phrases.specs.declared.Book as answer
 
 -- the sum of bytes, each times its place; the first is at the place i
 unfoldable pub weigh : ℕ → List ℕ → ℕ
@@ -14,20 +22,65 @@ weigh i (b ∷ bs) = b * i + weigh (suc i) bs
 
 -- the key of a text, from its first 64 bytes
 unfoldable pub key : Text → ℕ
-key t = weigh 1 (take 64 t) % 65536
+key t = weigh 1 (take 64 t)
 
--- the entry of a text that starts at a place
-unfoldable pub entry : ℕ → Text → ℕ
-entry at t = key t * 65536 + at
+-- the list of a text, by its key
+abbrev pub listOf : ℕ → ℕ
+listOf k = k % 128
 
--- the entries of texts that stand one behind the other from a place on, each ended by LF
-unfoldable pub indexFrom : ℕ → List Text → List ℕ
-indexFrom at [] = []
-indexFrom at (t ∷ ts) = entry at t ∷ indexFrom (suc (at + length t)) ts
+-- the part of a key that stands in an entry
+abbrev pub partOf : ℕ → ℕ
+partOf k = k / 128 % 256
 
--- the index of a book of at most 256 texts; every place in it is below 65,536
-abbrev pub Indexed : List ℕ → List ℕ → Type 0
-Indexed index book = (index ≡ indexFrom 0 (bookTexts book)) × (length index ≤ 256) × (length book < 65536)
+-- the last text of a list, where `before` texts stand in front of these and `found` is the last of the list among them
+unfoldable pub lastFrom : ℕ → ℕ → ℕ → List Text → ℕ
+lastFrom list before found [] = found
+lastFrom list before found (t ∷ ts) = lastFrom list (suc before) (cond (eqb (listOf (key t)) list) (suc before) found) ts
+
+-- the last text of a list
+abbrev pub lastOf : ℕ → List Text → ℕ
+lastOf list ts = lastFrom list 0 0 ts
+
+-- the last texts of n lists, from a list on
+unfoldable pub lastsFrom : ℕ → ℕ → List Text → List ℕ
+lastsFrom list zero ts = []
+lastsFrom list (suc n) ts = lastOf list ts ∷ lastsFrom (suc list) n ts
+
+-- the entry of a text that starts at a place, behind the text `before` of its list
+unfoldable pub entry : ℕ → ℕ → Text → ℕ
+entry at before t = (partOf (key t) * 512 + before) * 32768 + at
+
+-- the entries of texts that stand one behind the other from a place on, each ended by LF, behind earlier ones
+unfoldable pub entriesFrom : ℕ → List Text → List Text → List ℕ
+entriesFrom at earlier [] = []
+entriesFrom at earlier (t ∷ ts) =
+    entry at (lastOf (listOf (key t)) earlier) t ∷ entriesFrom (suc (at + length t)) (earlier ++ (t ∷ [])) ts
+
+-- the index of texts
+unfoldable pub indexOf : List Text → List ℕ
+indexOf ts = length ts ∷ (lastsFrom 0 128 ts ++ entriesFrom 0 [] ts)
+
+-- the check of a book, which leaves the index of the good lines in lent numbers
+abbrev pub bookCheck : List ℕ → List ℕ → answer.Book × List ℕ
+bookCheck book index = (bookAnswer (bookPhrases book), pour 0 (indexOf (goodTexts book)) index)
+
+-- the place behind texts that stand one behind the other from a place on, each ended by LF
+unfoldable pub behind : ℕ → List Text → ℕ
+behind at [] = at
+behind at (t ∷ ts) = behind (suc (at + length t)) ts
+
+-- all different
+abbrev pub Different : List Text → Type 0
+Different ts = (i j : ℕ) → i < j → j < length ts → same (getD ts i []) (getD ts j []) ≡ false
+
+-- numbers that begin with the index of a book, which is at most 256 different texts and nothing behind its last LF; every place in it is
+-- below 32,768
+pub record Indexed (index book : List ℕ) : Type 0 where
+  pub entries : take (length (indexOf (bookTexts book))) index ≡ indexOf (bookTexts book)
+  pub different : Different (bookTexts book)
+  pub few : length (bookTexts book) ≤ 256
+  pub whole : behind 0 (bookTexts book) ≡ length book
+  pub short : length book < 32768
 
 -- what a writer of texts is lent: the book with its index, and so many own phrases, which are there
 abbrev pub Listed : List ℕ → List ℕ → List ℕ → ℕ → Type 0

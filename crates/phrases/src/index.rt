@@ -1,13 +1,12 @@
-// The index of a book: a text's key, and a text found among those of its key.
+// The index of a book: a text's key, the text of an entry, and a text found along the links of its list.
 ghost use mathlib.Core.Path.{_≡_};
-ghost use mathlib.Core.List.{List, _∷_};
-ghost use Prim.Native.Nat.{_%_, _/_, _≤_, _<_, min};
-ghost use lib.ListN.{length, drop};
-ghost use Rattle.text.specs.Text.{Text};
+ghost use mathlib.Core.List.{[]};
+ghost use Prim.Native.Nat.{_+_, _<_};
+ghost use lib.ListN.{length, take, getD};
 ghost use Rattle.text.specs.Parts.{same};
 ghost use Rattle.phrases.specs.Phrases as phrases;
 ghost use Rattle.phrases.specs.Lookup.{bookTexts, placeAnswer};
-ghost use Rattle.phrases.specs.Index.{key, entry, Indexed};
+ghost use Rattle.phrases.specs.Index.{key, behind, Indexed};
 
 // The place of a text among texts, from 0.
 pub enum Place {
@@ -15,46 +14,66 @@ pub enum Place {
     Missing,
 }
 
-// How many bytes of a text its key is made of.
-fn weighed(length: usize) -> usize
-    ensures { λ r. ⌜ r ≡ min 64 length ⌝ }
-{
-    if length < 64 { length } else { 64 }
-}
-
-// The key of a text.
-fn key_of(text: &[u8]) -> usize
+// The key of a text, from its first 64 bytes.
+pub fn key_of(text: &[u8]) -> usize
     ensures { λ r. ⌜ r ≡ key (now (text .entry)) ⌝ }
 {
-    let most = weighed(text.len());
+    let most = output::least(64, text.len());
     let mut sum = 0;
     let mut i = 0;
     while i < most {
         sum += text[i] as usize * (i + 1);
         i += 1;
     }
-    sum % 65536
+    sum
 }
 
-// The entry of a text that starts at a place.
-pub fn entry_of(at: usize, text: &[u8]) -> u32
-    requires { ⌜ at < 65536 ⌝ }
-    ensures { λ r. ⌜ r ≡ entry at (now (text .entry)) ⌝ }
+// Where text k ends: one before the next text, or one before the book's end.
+fn end_of(index: &[u32], book: &[u8], k: usize) -> usize
+    requires { ⌜ Indexed (now index) (now book) × (k < length (bookTexts (now book))) ⌝ }
+    ensures { λ r. ⌜ r ≡ behind 0 (take k (bookTexts (now (book .entry)))) + length (getD (bookTexts (now (book .entry))) k []) ⌝ }
 {
-    (key_of(text) * 65536 + at) as u32
+    if k + 1 < index[0] as usize {
+        index[130 + k] as usize % 32768 - 1
+    } else {
+        book.len() - 1
+    }
 }
 
-// Whether a text, of the key k, is the one of an entry e.
-fn is_entry(e: usize, k: usize, book: &[u8], text: &[u8]) -> bool
-    requires { ⌜ e % 65536 ≤ length (now book) ⌝ }
-    ensures { λ r. ⌜ ((p : Text) (ps : List Text) → k ≡ key (now (text .entry)) → e / 65536 ≡ key p → bookTexts (drop (e % 65536) (now (book .entry))) ≡ p ∷ ps → r ≡ same (now (text .entry)) p) ⌝ }
+// Text k of the book, which starts at its entry's place.
+pub fn text_of<'a, 'b>(index: &'b [u32], book: &'a [u8], k: usize) -> &'a [u8]
+    requires { ⌜ Indexed (now index) (now book) × (k < length (bookTexts (now book))) ⌝ }
+    ensures { λ r. ⌜ now r ≡ getD (bookTexts (now (book .entry))) k [] ⌝ }
 {
-    if e / 65536 != k {
+    let a = index[129 + k] as usize % 32768;
+    let e = end_of(index, book, k);
+    &book[a..e]
+}
+
+// Whether a text, of this key, is text k: the two are compared where the entry has the text's part of the key.
+fn is_at(index: &[u32], book: &[u8], k: usize, weight: usize, text: &[u8]) -> bool
+    requires { ⌜ Indexed (now index) (now book) × (k < length (bookTexts (now book))) × (weight ≡ key (now text)) ⌝ }
+    ensures { λ r. ⌜ r ≡ same (now (text .entry)) (getD (bookTexts (now (book .entry))) k []) ⌝ }
+{
+    if index[129 + k] as usize / 16777216 != weight / 128 % 256 {
         return false;
     }
-    let a = e % 65536;
-    let end = text::find(book, a, b'\n');
-    text::same(text, &book[a..end])
+    text::same(text, text_of(index, book, k))
+}
+
+// The place of a text, of this key, among the lines of a book that end in LF: from the last text of its list to the one before, and so on.
+pub fn find_keyed(index: &[u32], book: &[u8], weight: usize, text: &[u8]) -> Place
+    requires { ⌜ Indexed (now index) (now book) × (weight ≡ key (now text)) ⌝ }
+    ensures { λ r. ⌜ r ≡ placeAnswer (phrases.place (bookTexts (now (book .entry))) (now (text .entry))) ⌝ }
+{
+    let mut next = index[weight % 128 + 1] as usize;
+    while next != 0 {
+        if is_at(index, book, next - 1, weight, text) {
+            return Place::At(next - 1);
+        }
+        next = index[128 + next] as usize / 32768 % 512;
+    }
+    Place::Missing
 }
 
 // The place of a text among the lines of a book that end in LF.
@@ -62,13 +81,5 @@ pub fn find_line(index: &[u32], book: &[u8], text: &[u8]) -> Place
     requires { ⌜ Indexed (now index) (now book) ⌝ }
     ensures { λ r. ⌜ r ≡ placeAnswer (phrases.place (bookTexts (now (book .entry))) (now (text .entry))) ⌝ }
 {
-    let key = key_of(text);
-    let mut n = 0;
-    while n < index.len() {
-        if is_entry(index[n] as usize, key, book, text) {
-            return Place::At(n);
-        }
-        n += 1;
-    }
-    Place::Missing
+    find_keyed(index, book, key_of(text), text)
 }

@@ -6,6 +6,8 @@ ghost use Rattle.phrases.specs.Index.{Indexed};
 use crate::Found;
 use crate::index::Place;
 use crate::index::find_line;
+use crate::index::text_of;
+use crate::numbers::count_of;
 
 // The place of a text among the texts of the first `count` lines `phrase,TEXT`.
 fn find_own(own: &[u8], count: usize, text: &[u8]) -> Place
@@ -55,10 +57,8 @@ pub fn phrase_text<'a>(
     if is_own {
         return text::part(text::part(own, b'\n', i), b',', 1);
     }
-    if i < index.len() {
-        let a = index[i] as usize % 65536;
-        let e = text::find(book, a, b'\n');
-        return &book[a..e];
+    if i < count_of(index) {
+        return text_of(index, book, i);
     }
     text::part(book, b'\n', i)
 }

@@ -23,18 +23,18 @@ ghost use Rattle.listing.specs.Calls.{readPlateCall};
 pub fn read_plate(plate: &[u8], book: &[u8], listing: &mut [u8]) -> Written
     ensures { λ r. ⌜ (writtenAnswer r, now (listing .exit)) ≡ readPlateCall (now (plate .entry)) (now (book .entry)) (now (listing .entry)) ⌝ }
 {
-    let mut index = [0u32; 256];
+    let mut index = [0u32; 385];
     match phrases::check_book(book, &mut index) {
         Book::Bad(line) => Written::Refused(Refusal {
             cause: Cause::Book,
             place: line,
         }),
-        Book::Holds(n) => {
+        Book::Holds(_) => {
             let mut own = [0u8; 2304];
-            match reader::read_contents(plate, &index[..n], book, &mut own) {
+            match reader::read_contents(plate, &index, book, &mut own) {
                 PlateRead::Refused(r) => Written::Refused(r),
                 PlateRead::Holds(contents) => {
-                    passes::write(plate, &index[..n], book, &own, contents, listing)
+                    passes::write(plate, &index, book, &own, contents, listing)
                 }
             }
         }

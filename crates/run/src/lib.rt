@@ -37,15 +37,15 @@ pub fn run(
     ensures { λ r. ⌜ (ranAnswer r, now (transcript .exit)) ≡ runCall (now (plate .entry)) (now (book .entry)) (now (answers .entry)) (length (now (scratch .entry))) (now (transcript .entry)) ⌝ }
     ensures { λ r. ⌜ now (scratch .exit) ≡ now (scratch .entry) ⌝ }
 {
-    let mut index = [0u32; 256];
+    let mut index = [0u32; 385];
     match phrases::check_book(book, &mut index) {
         Book::Bad(line) => Ran::Refused(Refusal {
             cause: Cause::Book,
             place: line,
         }),
-        Book::Holds(n) => {
+        Book::Holds(_) => {
             let mut own = [0u8; 2304];
-            match reader::read_contents(plate, &index[..n], book, &mut own) {
+            match reader::read_contents(plate, &index, book, &mut own) {
                 PlateRead::Refused(r) => Ran::Refused(r),
                 PlateRead::Holds(c) => {
                     if scratch.len() < 512 {
@@ -54,7 +54,7 @@ pub fn run(
                             place: 0,
                         });
                     }
-                    passes::write(plate, &index[..n], book, &own, c, answers, transcript)
+                    passes::write(plate, &index, book, &own, c, answers, transcript)
                 }
             }
         }

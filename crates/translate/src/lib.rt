@@ -24,16 +24,16 @@ ghost use Rattle.translate.specs.Call.{translateCall};
 pub fn translate(guide: &[u8], book: &[u8], plate: &mut [u8]) -> Written
     ensures { λ r. ⌜ (writtenAnswer r, now (plate .exit)) ≡ translateCall (now (guide .entry)) (now (book .entry)) (now (plate .entry)) ⌝ }
 {
-    let mut index = [0u32; 256];
+    let mut index = [0u32; 385];
     match phrases::check_book(book, &mut index) {
         Book::Bad(line) => Written::Refused(Refusal {
             cause: Cause::Book,
             place: line,
         }),
-        Book::Holds(n) => match lines::check(Form::Guide, &index[..n], book, guide) {
+        Book::Holds(_) => match lines::check(Form::Guide, &index, book, guide) {
             Checked::Refused(r) => Written::Refused(r),
             Checked::Fine { own, instructions } => {
-                passes::write(guide, &index[..n], book, own, instructions, plate)
+                passes::write(guide, &index, book, own, instructions, plate)
             }
         },
     }

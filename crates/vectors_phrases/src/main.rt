@@ -13,7 +13,7 @@ fn numbered(yes: bool, number: usize) {
 
 // The check of a book. This and the functions below return the place behind the case.
 fn check(s: &[u8], at: usize) -> usize {
-    let mut index = [0u32; 256];
+    let mut index = [0u32; 385];
     match phrases::check_book(vectors::slice(s, at), &mut index) {
         Book::Holds(count) => numbered(true, count),
         Book::Bad(line) => numbered(false, line),
@@ -30,15 +30,15 @@ fn place(list: usize, place: usize) {
 
 // Where a text is a phrase.
 fn find(s: &[u8], at: usize) -> usize {
-    let mut index = [0u32; 256];
+    let mut index = [0u32; 385];
     let second = vectors::past_slice(s, at);
     let third = vectors::past_slice(s, second);
     let last = vectors::past(third, 8);
     let book = vectors::slice(s, at);
     match phrases::check_book(book, &mut index) {
         Book::Bad(line) => numbered(false, line),
-        Book::Holds(n) => match phrases::find_phrase(
-            &index[..n],
+        Book::Holds(_) => match phrases::find_phrase(
+            &index,
             book,
             vectors::slice(s, second),
             vectors::long_number(s, third),
@@ -54,7 +54,7 @@ fn find(s: &[u8], at: usize) -> usize {
 
 // The text of a phrase.
 fn text(s: &[u8], at: usize) -> usize {
-    let mut index = [0u32; 256];
+    let mut index = [0u32; 385];
     let second = vectors::past_slice(s, at);
     let third = vectors::past_slice(s, second);
     let is_own = vectors::number(s, third) == 1;
@@ -62,8 +62,8 @@ fn text(s: &[u8], at: usize) -> usize {
     let book = vectors::slice(s, at);
     match phrases::check_book(book, &mut index) {
         Book::Bad(line) => numbered(false, line),
-        Book::Holds(n) => vectors::write_hex(phrases::phrase_text(
-            &index[..n],
+        Book::Holds(_) => vectors::write_hex(phrases::phrase_text(
+            &index,
             book,
             vectors::slice(s, second),
             is_own,

@@ -30,13 +30,13 @@ pub struct Walked {
 pub fn walk(guide: &[u8], book: &[u8], answers: &[i32], transcript: &mut [u8]) -> Ran
     ensures { λ r. ⌜ (ranAnswer r, now (transcript .exit)) ≡ walkCall (now (guide .entry)) (now (book .entry)) (now (answers .entry)) (now (transcript .entry)) ⌝ }
 {
-    let mut index = [0u32; 256];
+    let mut index = [0u32; 385];
     match phrases::check_book(book, &mut index) {
         Book::Bad(line) => Ran::Refused(Refusal {
             cause: Cause::Book,
             place: line,
         }),
-        Book::Holds(n) => match lines::check(Form::Guide, &index[..n], book, guide) {
+        Book::Holds(_) => match lines::check(Form::Guide, &index, book, guide) {
             Checked::Refused(r) => Ran::Refused(r),
             Checked::Fine {
                 own: _,

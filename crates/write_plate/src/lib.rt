@@ -21,13 +21,13 @@ ghost use Rattle.listing.specs.Calls.{writePlateCall};
 pub fn write_plate(listing: &[u8], book: &[u8], plate: &mut [u8]) -> Written
     ensures { λ r. ⌜ (writtenAnswer r, now (plate .exit)) ≡ writePlateCall (now (listing .entry)) (now (book .entry)) (now (plate .entry)) ⌝ }
 {
-    let mut index = [0u32; 256];
+    let mut index = [0u32; 385];
     match phrases::check_book(book, &mut index) {
         Book::Bad(line) => Written::Refused(Refusal {
             cause: Cause::Book,
             place: line,
         }),
-        Book::Holds(n) => match lines::check(Form::Listing, &index[..n], book, listing) {
+        Book::Holds(_) => match lines::check(Form::Listing, &index, book, listing) {
             Checked::Refused(r) => Written::Refused(r),
             Checked::Fine { own, instructions } => {
                 match skips::first_past(listing, own, instructions) {
@@ -35,14 +35,7 @@ pub fn write_plate(listing: &[u8], book: &[u8], plate: &mut [u8]) -> Written
                         cause: Cause::Skip,
                         place: line,
                     }),
-                    Past::Nowhere => passes::write(
-                        listing,
-                        &index[..n],
-                        book,
-                        own,
-                        instructions,
-                        plate,
-                    ),
+                    Past::Nowhere => passes::write(listing, &index, book, own, instructions, plate),
                 }
             }
         },

@@ -55,7 +55,7 @@ fn put_source(
     ensures { λ r. ⌜ (r, bytesBits (now (out .exit))) ≡ poured at (bitsOf 2 2 ++ ownBit (bookTexts (now (book .entry))) (ownTexts count (now (own .entry))) source) (bytesBits (now (out .entry))) ⌝ }
 {
     let end = bits::put_bits(out, at, 2, 2);
-    if index.len() == 0 {
+    if phrases::count_of(index) == 0 {
         return end;
     }
     if count == 0 {
@@ -80,7 +80,7 @@ pub fn put_text(
     match phrases::find_phrase(index, book, own, count, text) {
         Found::InBook(i) => {
             let end = put_source(out, at, 0, index, book, own, count);
-            bits::put_bits(out, end, phrases::width_of(index.len()), i)
+            bits::put_bits(out, end, phrases::width_of(phrases::count_of(index)), i)
         }
         Found::InOwn(i) => {
             let end = put_source(out, at, 1, index, book, own, count);

@@ -1,9 +1,7 @@
 -- `run` meets its contract: the book's refusal, the plate's, short scratch, or what the two passes leave.
-use native.Mathlib.Omega.{arith}
 use mathlib.Core.Path.{refl, sym, _∙_}
-use lib.Seq.{length-take-le}
 use borrow.Author.Needs.{needs}
-use Rattle.phrases.proofs.Answers.{book-few}
+use Rattle.phrases.proofs.Answers.{answer-is}
 use Rattle.run.proofs.Called.{call-book, call-plate, accepted, call-scratch, call-run}
 use Rattle.run.proofs.run.Statement.{statement}
 use Rattle.run.proofs.run.Tie as tie
@@ -17,28 +15,19 @@ check-book-requires c κs = search needs
 enum-known-line : tie.Need-enum-known-line
 enum-known-line c = search needs
 
-enum-known-n : tie.Need-enum-known-n
-enum-known-n c = search needs
-
-array-share-prefix-index : tie.Need-array-share-prefix-index
-array-share-prefix-index c =
-    let n = c .before in
-    let book = sym (n .before .before .before .check-book .ensures .0) ∙ n .n .given .1 in
-    omega (arith, book-few _ book, n .before .before .index2 .given)
+enum-told : tie.Need-enum-told
+enum-told c = search needs
 
 slice-aggregate-read-contents : tie.Need-slice-aggregate-read-contents
-slice-aggregate-read-contents c =
-    let n = c .before .before in
-    let book = sym (n .before .before .before .check-book .ensures .0) ∙ n .n .given .1 in
-    sym (length-take-le _ _ (omega (arith, book-few _ book, n .before .before .index2 .given)))
+slice-aggregate-read-contents c = search needs
 
 slice-aggregate-read-contents-2 : tie.Need-slice-aggregate-read-contents-2
 slice-aggregate-read-contents-2 c = search needs
 
 read-contents-requires : tie.Need-read-contents-requires
 read-contents-requires c κs =
-    let n = c .before .before .before in
-    (n .before .before .before .check-book .ensures .1 _ (n .n .given .1), search needs)
+    let n = c .before .before in
+    (n .before .before .before .check-book .ensures .1 _ (n .enum-told .given .1), search needs)
 
 enum-known-r : tie.Need-enum-known-r
 enum-known-r c = search needs
@@ -48,41 +37,32 @@ enum-known-c c = search needs
 
 returns : tie.Need-returns
 returns c =
-    let n = c .before .before .before .before .before .before .before .before .before in
-    let book = sym (n .before .before .before .check-book .ensures .0) ∙ n .n .given .1 in
+    let n = c .before .before .before .before .before .before .before .before in
+    let book = sym (answer-is _ _ (n .before .before .before .check-book .ensures .0)) ∙ n .enum-told .given .1 in
     let read = c .before .before .before .before .before .read-contents .ensures .0 in
     (call-scratch _ _ _ _ book _ read _ _ _ _ (c .before .before .c .given .1) (c .if1 .taken), refl)
 
-array-share-prefix-index-2 : tie.Need-array-share-prefix-index-2
-array-share-prefix-index-2 c =
-    let n = c .before .before .before .before .before .before .before .before .before in
-    let book = sym (n .before .before .before .check-book .ensures .0) ∙ n .n .given .1 in
-    omega (arith, book-few _ book, n .before .before .index2 .given)
-
 slice-aggregate-write : tie.Need-slice-aggregate-write
-slice-aggregate-write c =
-    let n = c .before .before .before .before .before .before .before .before .before .before in
-    let book = sym (n .before .before .before .check-book .ensures .0) ∙ n .n .given .1 in
-    sym (length-take-le _ _ (omega (arith, book-few _ book, n .before .before .index2 .given)))
+slice-aggregate-write c = search needs
 
 slice-aggregate-write-2 : tie.Need-slice-aggregate-write-2
 slice-aggregate-write-2 c = search needs
 
 write-requires : tie.Need-write-requires
 write-requires c κs =
-    let n = c .before .before .before .before .before .before .before .before .before .before .before .before in
-    let book = sym (n .before .before .before .check-book .ensures .0) ∙ n .n .given .1 in
+    let n = c .before .before .before .before .before .before .before .before .before .before .before in
+    let book = sym (answer-is _ _ (n .before .before .before .check-book .ensures .0)) ∙ n .enum-told .given .1 in
     let read = c .before .before .before .before .before .before .before .before in
     accepted _ _ _ _ book _ (read .read-contents .ensures .0) _ _ (c .before .before .before .before .before .c .given .1) (read .read-contents .ensures .1 .0)
 
 returns-2 : tie.Need-returns-2
 returns-2 c =
-    (call-book _ _ _ _ _ _ (sym (c .before .before .before .before .check-book .ensures .0) ∙ c .before .line .given .1), refl)
+    (call-book _ _ _ _ _ _ (sym (answer-is _ _ (c .before .before .before .before .check-book .ensures .0)) ∙ c .before .line .given .1), refl)
 
 returns-3 : tie.Need-returns-3
 returns-3 c =
-    let n = c .before .before .before .before .before .before .before .before in
-    let book = sym (n .before .before .before .check-book .ensures .0) ∙ n .n .given .1 in
+    let n = c .before .before .before .before .before .before .before in
+    let book = sym (answer-is _ _ (n .before .before .before .check-book .ensures .0)) ∙ n .enum-told .given .1 in
     (call-plate _ _ _ _ book _ (c .before .before .before .before .read-contents .ensures .0) _ _ _ _ (c .before .r .given .1), refl)
 
 same-length : tie.Need-same-length
@@ -90,8 +70,8 @@ same-length c = search needs
 
 returns-4 : tie.Need-returns-4
 returns-4 c =
-    let n = c .before .before .before .before .before .before .before .before .before .before .before .before .before .before .before in
-    let book = sym (n .before .before .before .check-book .ensures .0) ∙ n .n .given .1 in
+    let n = c .before .before .before .before .before .before .before .before .before .before .before .before .before .before in
+    let book = sym (answer-is _ _ (n .before .before .before .check-book .ensures .0)) ∙ n .enum-told .given .1 in
     let read = c .before .before .before .before .before .before .before .before .before .before .before .read-contents .ensures .0 in
     (call-run _ _ _ _ book _ read _ _ _ _ _ (c .before .before .before .before .before .before .before .before .c .given .1) (c .before .before .before .before .before .before .if1 .left) (c .before .before .write .ensures), refl)
 
@@ -102,15 +82,13 @@ run-spec =
     slice-aggregate-check-book
     check-book-requires
     enum-known-line
-    enum-known-n
-    array-share-prefix-index
+    enum-told
     slice-aggregate-read-contents
     slice-aggregate-read-contents-2
     read-contents-requires
     enum-known-r
     enum-known-c
     returns
-    array-share-prefix-index-2
     slice-aggregate-write
     slice-aggregate-write-2
     write-requires

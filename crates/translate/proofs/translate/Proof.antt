@@ -1,9 +1,7 @@
 -- `translate` meets its contract: the refusal of the book, that of the guide, or what the two passes leave.
-use native.Mathlib.Omega.{arith}
 use mathlib.Core.Path.{sym, _∙_}
-use lib.Seq.{length-take-le}
 use borrow.Author.Needs.{needs}
-use Rattle.phrases.proofs.Answers.{book-few}
+use Rattle.phrases.proofs.Answers.{answer-is}
 use Rattle.guide.proofs.Accepted.{accepted-clean}
 use Rattle.translate.proofs.Whole.{few-bytes, few-own, own-there, counts, call-book, call-guide, call-translated}
 use Rattle.translate.proofs.translate.Statement.{statement}
@@ -18,25 +16,16 @@ check-book-requires c κs = search needs
 enum-known-line : tie.Need-enum-known-line
 enum-known-line c = search needs
 
-enum-known-n : tie.Need-enum-known-n
-enum-known-n c = search needs
-
-array-share-prefix-index : tie.Need-array-share-prefix-index
-array-share-prefix-index c =
-    let n = c .before in
-    let book = sym (n .before .before .before .check-book .ensures .0) ∙ n .n .given .1 in
-    omega (arith, book-few _ book, n .before .before .index2 .given)
+enum-told : tie.Need-enum-told
+enum-told c = search needs
 
 slice-aggregate-check : tie.Need-slice-aggregate-check
-slice-aggregate-check c =
-    let n = c .before .before in
-    let book = sym (n .before .before .before .check-book .ensures .0) ∙ n .n .given .1 in
-    sym (length-take-le _ _ (omega (arith, book-few _ book, n .before .before .index2 .given)))
+slice-aggregate-check c = search needs
 
 check-requires : tie.Need-check-requires
 check-requires c κs =
-    let n = c .before .before in
-    n .before .before .before .check-book .ensures .1 _ (n .n .given .1)
+    let n = c .before in
+    n .before .before .before .check-book .ensures .1 _ (n .enum-told .given .1)
 
 enum-known-r : tie.Need-enum-known-r
 enum-known-r c = search needs
@@ -44,37 +33,28 @@ enum-known-r c = search needs
 enum-known-own : tie.Need-enum-known-own
 enum-known-own c = search needs
 
-array-share-prefix-index-2 : tie.Need-array-share-prefix-index-2
-array-share-prefix-index-2 c =
-    let n = c .before .before .before .before .before .before in
-    let book = sym (n .before .before .before .check-book .ensures .0) ∙ n .n .given .1 in
-    omega (arith, book-few _ book, n .before .before .index2 .given)
-
 slice-aggregate-write : tie.Need-slice-aggregate-write
-slice-aggregate-write c =
-    let n = c .before .before .before .before .before .before .before in
-    let book = sym (n .before .before .before .check-book .ensures .0) ∙ n .n .given .1 in
-    sym (length-take-le _ _ (omega (arith, book-few _ book, n .before .before .index2 .given)))
+slice-aggregate-write c = search needs
 
 write-requires : tie.Need-write-requires
 write-requires c κs =
     let own = c .before .before .before in
-    let n = own .before .before .before .before .before in
+    let n = own .before .before .before .before in
     let f = sym (own .before .before .check .ensures) ∙ own .own .given .1 in (
       few-bytes _ _ _ _ f,
-      (n .before .before .before .check-book .ensures .1 _ (n .n .given .1), own-there _ _ _ _ f, few-own _ _ _ _ f),
+      (n .before .before .before .check-book .ensures .1 _ (n .enum-told .given .1), own-there _ _ _ _ f, few-own _ _ _ _ f),
       counts _ _ _ _ f,
       accepted-clean _ _ _ _ f,
     )
 
 returns : tie.Need-returns
 returns c =
-    call-book _ _ _ _ (sym (c .before .before .before .before .check-book .ensures .0) ∙ c .before .line .given .1)
+    call-book _ _ _ _ (sym (answer-is _ _ (c .before .before .before .before .check-book .ensures .0)) ∙ c .before .line .given .1)
 
 returns-2 : tie.Need-returns-2
 returns-2 c =
-    let n = c .before .before .before .before .before .before in
-    let book = sym (n .before .before .before .check-book .ensures .0) ∙ n .n .given .1 in
+    let n = c .before .before .before .before .before in
+    let book = sym (answer-is _ _ (n .before .before .before .check-book .ensures .0)) ∙ n .enum-told .given .1 in
     call-guide _ _ _ _ _ book (sym (c .before .before .before .check .ensures) ∙ c .before .r .given .1)
 
 same-length : tie.Need-same-length
@@ -82,8 +62,8 @@ same-length c = search needs
 
 returns-3 : tie.Need-returns-3
 returns-3 c =
-    let n = c .before .before .before .before .before .before .before .before .before .before .before in
-    let book = sym (n .before .before .before .check-book .ensures .0) ∙ n .n .given .1 in
+    let n = c .before .before .before .before .before .before .before .before .before .before in
+    let book = sym (answer-is _ _ (n .before .before .before .check-book .ensures .0)) ∙ n .enum-told .given .1 in
     let own = c .before .before .before .before .before .before in
     call-translated _ _ _ _ _ _ _ book (sym (own .before .before .check .ensures) ∙ own .own .given .1) (c .before .before .write .ensures)
 
@@ -94,13 +74,11 @@ translate-spec =
     slice-aggregate-check-book
     check-book-requires
     enum-known-line
-    enum-known-n
-    array-share-prefix-index
+    enum-told
     slice-aggregate-check
     check-requires
     enum-known-r
     enum-known-own
-    array-share-prefix-index-2
     slice-aggregate-write
     write-requires
     returns

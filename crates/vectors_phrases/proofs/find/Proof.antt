@@ -1,9 +1,5 @@
 -- `find` is safe and ends: the lookup is lent the index of the book that was checked.
-use native.Mathlib.Omega.{arith}
-use mathlib.Core.Path.{sym, _∙_}
-use lib.Seq.{length-take-le}
 use borrow.Author.Needs.{needs}
-use Rattle.phrases.proofs.Answers.{book-few}
 use Rattle.vectors_phrases.proofs.find.Statement.{statement}
 use Rattle.vectors_phrases.proofs.find.Tie as tie
 
@@ -31,18 +27,11 @@ enum-known-line c = search needs
 numbered-requires : tie.Need-numbered-requires
 numbered-requires c κs = search needs
 
-enum-known-n : tie.Need-enum-known-n
-enum-known-n c = search needs
-
-array-share-prefix-index : tie.Need-array-share-prefix-index
-array-share-prefix-index c =
-    let few = book-few _ (sym (c .before .before .before .before .check-book .ensures .0) ∙ c .before .n .given .1) in
-    omega (arith, few, c .before .before .before .index2 .given)
+enum-told : tie.Need-enum-told
+enum-told c = search needs
 
 slice-aggregate-find-phrase : tie.Need-slice-aggregate-find-phrase
-slice-aggregate-find-phrase c =
-    let few = book-few _ (sym (c .before .before .before .before .before .check-book .ensures .0) ∙ c .before .before .n .given .1) in
-    sym (length-take-le _ _ (omega (arith, few, c .before .before .before .before .index2 .given)))
+slice-aggregate-find-phrase c = search needs
 
 slice-requires-2 : tie.Need-slice-requires-2
 slice-requires-2 c κs = search needs
@@ -54,7 +43,7 @@ slice-requires-3 : tie.Need-slice-requires-3
 slice-requires-3 c κs = search needs
 
 find-phrase-requires : tie.Need-find-phrase-requires
-find-phrase-requires c κs = c .before .before .before .before .before .before .before .before .check-book .ensures .1 _ (c .before .before .before .before .before .n .given .1)
+find-phrase-requires c κs = c .before .before .before .before .before .before .before .check-book .ensures .1 _ (c .before .before .before .before .enum-told .given .1)
 
 enum-known-i : tie.Need-enum-known-i
 enum-known-i c = search needs
@@ -68,8 +57,8 @@ enum-known-i-2 c = search needs
 place-requires-2 : tie.Need-place-requires-2
 place-requires-2 c κs = search needs
 
-enum-told : tie.Need-enum-told
-enum-told c = search needs
+enum-told-2 : tie.Need-enum-told-2
+enum-told-2 c = search needs
 
 write-yes-requires : tie.Need-write-yes-requires
 write-yes-requires c κs = search needs
@@ -92,8 +81,7 @@ find-spec =
     check-book-requires
     enum-known-line
     numbered-requires
-    enum-known-n
-    array-share-prefix-index
+    enum-told
     slice-aggregate-find-phrase
     slice-requires-2
     long-number-requires
@@ -103,7 +91,7 @@ find-spec =
     place-requires
     enum-known-i-2
     place-requires-2
-    enum-told
+    enum-told-2
     write-yes-requires
     past-slice-requires-3
     returns)

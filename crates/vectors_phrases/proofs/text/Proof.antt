@@ -1,9 +1,5 @@
 -- `text` is safe and ends: the lookup is lent the index of the book that was checked.
-use native.Mathlib.Omega.{arith}
-use mathlib.Core.Path.{sym, _∙_}
-use lib.Seq.{length-take-le}
 use borrow.Author.Needs.{needs}
-use Rattle.phrases.proofs.Answers.{book-few}
 use Rattle.vectors_phrases.proofs.text.Statement.{statement}
 use Rattle.vectors_phrases.proofs.text.Tie as tie
 
@@ -37,24 +33,17 @@ enum-known-line c = search needs
 numbered-requires : tie.Need-numbered-requires
 numbered-requires c κs = search needs
 
-enum-known-n : tie.Need-enum-known-n
-enum-known-n c = search needs
-
-array-share-prefix-index : tie.Need-array-share-prefix-index
-array-share-prefix-index c =
-    let few = book-few _ (sym (c .before .before .before .before .check-book .ensures .0) ∙ c .before .n .given .1) in
-    omega (arith, few, c .before .before .before .index2 .given)
+enum-told : tie.Need-enum-told
+enum-told c = search needs
 
 slice-aggregate-phrase-text : tie.Need-slice-aggregate-phrase-text
-slice-aggregate-phrase-text c =
-    let few = book-few _ (sym (c .before .before .before .before .before .check-book .ensures .0) ∙ c .before .before .n .given .1) in
-    sym (length-take-le _ _ (omega (arith, few, c .before .before .before .before .index2 .given)))
+slice-aggregate-phrase-text c = search needs
 
 slice-requires-2 : tie.Need-slice-requires-2
 slice-requires-2 c κs = search needs
 
 phrase-text-requires : tie.Need-phrase-text-requires
-phrase-text-requires c κs = c .before .before .before .before .before .before .check-book .ensures .1 _ (c .before .before .before .n .given .1)
+phrase-text-requires c κs = c .before .before .before .before .before .check-book .ensures .1 _ (c .before .before .enum-told .given .1)
 
 write-hex-requires : tie.Need-write-hex-requires
 write-hex-requires c κs = search needs
@@ -79,8 +68,7 @@ text-spec =
     check-book-requires
     enum-known-line
     numbered-requires
-    enum-known-n
-    array-share-prefix-index
+    enum-told
     slice-aggregate-phrase-text
     slice-requires-2
     phrase-text-requires

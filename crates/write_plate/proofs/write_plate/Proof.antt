@@ -1,9 +1,7 @@
 -- `write_plate` meets its contract: the book's refusal, the listing's, a skip's, or what the two passes leave.
-use native.Mathlib.Omega.{arith}
 use mathlib.Core.Path.{sym, _∙_}
-use lib.Seq.{length-take-le}
 use borrow.Author.Needs.{needs}
-use Rattle.phrases.proofs.Answers.{book-few}
+use Rattle.phrases.proofs.Answers.{answer-is}
 use Rattle.write_plate.proofs.Call.{call-book, call-listing, call-skip, call-written}
 use Rattle.write_plate.proofs.write_plate.Statement.{statement}
 use Rattle.write_plate.proofs.write_plate.Tie as tie
@@ -17,22 +15,14 @@ check-book-requires c κs = search needs
 enum-known-line : tie.Need-enum-known-line
 enum-known-line c = search needs
 
-enum-known-n : tie.Need-enum-known-n
-enum-known-n c = search needs
-
-array-share-prefix-index : tie.Need-array-share-prefix-index
-array-share-prefix-index c =
-    let few = book-few _ (sym (c .before .before .before .before .check-book .ensures .0) ∙ c .before .n .given .1) in
-    omega (arith, few, c .before .before .before .index2 .given)
+enum-told : tie.Need-enum-told
+enum-told c = search needs
 
 slice-aggregate-check : tie.Need-slice-aggregate-check
-slice-aggregate-check c =
-    let few = book-few _ (sym (c .before .before .before .before .before .check-book .ensures .0) ∙ c .before .before .n .given .1) in
-    sym (length-take-le _ _ (omega (arith, few, c .before .before .before .before .index2 .given)))
+slice-aggregate-check c = search needs
 
 check-requires : tie.Need-check-requires
-check-requires c κs =
-    c .before .before .before .before .before .check-book .ensures .1 _ (c .before .before .n .given .1)
+check-requires c κs = c .before .before .before .before .check-book .ensures .1 _ (c .before .enum-told .given .1)
 
 enum-known-r : tie.Need-enum-known-r
 enum-known-r c = search needs
@@ -47,46 +37,37 @@ first-past-requires c κs =
 enum-known-line-2 : tie.Need-enum-known-line-2
 enum-known-line-2 c = search needs
 
-enum-told : tie.Need-enum-told
-enum-told c = search needs
-
-array-share-prefix-index-2 : tie.Need-array-share-prefix-index-2
-array-share-prefix-index-2 c =
-    let book = c .before .before .before .before .before .before .before .before .before in
-    let few = book-few _ (sym (book .before .before .before .check-book .ensures .0) ∙ book .n .given .1) in
-    omega (arith, few, book .before .before .index2 .given)
+enum-told-2 : tie.Need-enum-told-2
+enum-told-2 c = search needs
 
 slice-aggregate-write : tie.Need-slice-aggregate-write
-slice-aggregate-write c =
-    let book = c .before .before .before .before .before .before .before .before .before .before in
-    let few = book-few _ (sym (book .before .before .before .check-book .ensures .0) ∙ book .n .given .1) in
-    sym (length-take-le _ _ (omega (arith, few, book .before .before .index2 .given)))
+slice-aggregate-write c = search needs
 
 write-requires : tie.Need-write-requires
 write-requires c κs =
     let own = c .before .before .before .before .before .before in
-    let book = own .before .before .before .before .before in (
-      book .before .before .before .check-book .ensures .1 _ (book .n .given .1),
+    let book = own .before .before .before .before in (
+      book .before .before .before .check-book .ensures .1 _ (book .enum-told .given .1),
       record { book = _; checked = sym (own .before .before .check .ensures) ∙ own .own .given .1 },
     )
 
 returns : tie.Need-returns
 returns c =
-    call-book _ _ _ _ (sym (c .before .before .before .before .check-book .ensures .0) ∙ c .before .line .given .1)
+    call-book _ _ _ _ (sym (answer-is _ _ (c .before .before .before .before .check-book .ensures .0)) ∙ c .before .line .given .1)
 
 returns-2 : tie.Need-returns-2
 returns-2 c =
     let check = c .before .before .before in
-    let n = check .before .before .before in
-    let book = sym (n .before .before .before .check-book .ensures .0) ∙ n .n .given .1 in
+    let n = check .before .before in
+    let book = sym (answer-is _ _ (n .before .before .before .check-book .ensures .0)) ∙ n .enum-told .given .1 in
     call-listing _ _ _ book _ (sym (check .check .ensures) ∙ c .before .r .given .1)
 
 returns-3 : tie.Need-returns-3
 returns-3 c =
     let own = c .before .before .before .before .before in
     let check = own .before .before in
-    let n = check .before .before .before in
-    let book = sym (n .before .before .before .check-book .ensures .0) ∙ n .n .given .1 in
+    let n = check .before .before in
+    let book = sym (answer-is _ _ (n .before .before .before .check-book .ensures .0)) ∙ n .enum-told .given .1 in
     let listing = sym (check .check .ensures) ∙ own .own .given .1 in
     call-skip _ _ _ book listing _ (sym (c .before .before .before .first-past .ensures) ∙ c .before .line2 .given .1)
 
@@ -98,10 +79,10 @@ returns-4 c =
     let told = c .before .before .before .before .before in
     let own = told .before .before .before .before in
     let check = own .before .before in
-    let n = check .before .before .before in
-    let book = sym (n .before .before .before .check-book .ensures .0) ∙ n .n .given .1 in
+    let n = check .before .before in
+    let book = sym (answer-is _ _ (n .before .before .before .check-book .ensures .0)) ∙ n .enum-told .given .1 in
     let listing = sym (check .check .ensures) ∙ own .own .given .1 in
-    call-written _ _ _ book listing _ (sym (told .before .before .first-past .ensures) ∙ told .enum-told .given .1) (c .before .before .write .ensures)
+    call-written _ _ _ book listing _ (sym (told .before .before .first-past .ensures) ∙ told .enum-told2 .given .1) (c .before .before .write .ensures)
 
 pub write-plate-spec : {M : Type 1} → statement M
 write-plate-spec =
@@ -110,16 +91,14 @@ write-plate-spec =
     slice-aggregate-check-book
     check-book-requires
     enum-known-line
-    enum-known-n
-    array-share-prefix-index
+    enum-told
     slice-aggregate-check
     check-requires
     enum-known-r
     enum-known-own
     first-past-requires
     enum-known-line-2
-    enum-told
-    array-share-prefix-index-2
+    enum-told-2
     slice-aggregate-write
     write-requires
     returns

@@ -2,7 +2,6 @@
 use Prim.Native.Nat.{_+_}
 use mathlib.Core.Path.{_≡_, _∙_}
 use native.Mathlib.Omega.{arith}
-use lib.ListN.{length}
 use borrow.Author.Needs.{needs}
 use Rattle.phrases.specs.Lookup.{phrasesIn}
 use Rattle.causes.specs.declared.Cause.the-variants.{Unused}
@@ -20,17 +19,22 @@ use Rattle.instructions.proofs.text_at.read_text.Tie as tie
 
 -- the code, as the reader judges it
 code-read : (c : tie.After-read-code) →
-    let a = c .before .before .before .before .before .args in
+    let a = c .before .before .before .before .before .before .args in
     fieldRead (a .plate .now) (c .read-code .result)
     ≡ judged (number 2) (reader.isTextCode (phrasesIn (a .book .now) (a .own .now) (a .count))) Unused (placeAt (a .plate .now) (a .at))
 code-read c =
-    let b = c .before .before .before .before .before in
+    let b = c .before .before .before .before .before .before in
     c .read-code .ensures
-    ∙ text-code (phrasesIn (b .args .book .now) (b .args .own .now) (b .args .count)) (length (b .args .index .now) + b .args .count) _ _
-    (omega (arith, book-count (b .pre .0), b .pre .0 .whole))
+    ∙ text-code (phrasesIn (b .args .book .now) (b .args .own .now) (b .args .count)) (c .before .count-of .result + b .args .count) _ _
+    (omega (arith, c .before .count-of .ensures, book-count (b .pre .0), b .pre .0 .whole))
+
+count-of-requires : tie.Need-count-of-requires
+count-of-requires c κs = search needs
 
 add-read-code : tie.Need-add-read-code
-add-read-code c = search needs
+add-read-code c =
+    let b = c .before .before .before .before .before in
+    omega (arith, c .count-of .ensures, book-count (b .pre .0), b .pre .0 .indexed .few, b .pre .0 .few)
 
 read-code-requires : tie.Need-read-code-requires
 read-code-requires c κs = search needs
@@ -53,7 +57,7 @@ read-phrase-requires : tie.Need-read-phrase-requires
 read-phrase-requires c κs = let some =
     some-phrase _ _ _ _ (field-got _ _ (c .before .before .before .before .read-code .ensures) (c .before .before .field .given .1))
     (c .if1 .taken) in
-    (search needs, omega (arith, some))
+    (search needs, omega (arith, some, c .before .before .before .before .before .count-of .ensures))
 
 returns-2 : tie.Need-returns-2
 unfolding reader.text
@@ -64,7 +68,7 @@ returns-2 c =
 spelled-at-requires : tie.Need-spelled-at-requires
 unfolding reader.text
 spelled-at-requires c κs =
-    let b = c .before .before .before .before .before .before .before .before .before in (
+    let b = c .before .before .before .before .before .before .before .before .before .before in (
       b .pre .0 .short,
       b .pre .0 .indexed,
       known-same (by-spelled _ _ _ (c .if1 .left))
@@ -103,6 +107,7 @@ pub read-text-spec : {M : Type 1} → statement M
 read-text-spec =
     tie.close
     (tie.spec
+    count-of-requires
     add-read-code
     read-code-requires
     enum-known-field

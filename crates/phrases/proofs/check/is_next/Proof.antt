@@ -1,24 +1,29 @@
 -- `is_next` meets its contract: a line is good where none of the three tests turns it down.
+use native.Mathlib.Omega.{arith}
+use Prim.Native.Nat.{_<_}
 use mathlib.Core.Path.{sym, _∙_}
-use borrow.Author.Needs.{needs}
+use lib.ListN.{length}
 use Rattle.phrases.specs.Lookup.{bookTexts}
 use Rattle.phrases.proofs.Answers.{place-is}
 use Rattle.phrases.proofs.Entries.{indexed-count}
 use Rattle.phrases.proofs.Checked.{next-full, next-no-text, next-repeated, next-good}
+use borrow.Author.Needs.{needs}
 use Rattle.phrases.proofs.check.is_next.Statement.{statement}
 use Rattle.phrases.proofs.check.is_next.Tie as tie
 
+count-of-requires : tie.Need-count-of-requires
+count-of-requires c κs = search needs
+
 returns : tie.Need-returns
 returns c =
-    let s = c .before .before .before .before in
-    let a = s .args in
-    sym (next-full (bookTexts (a .earlier .now)) (a .line .now) (rw (indexed-count _ _ (s .pre)) (search needs)))
+    let s = c .before .before .before .before .before in
+    sym (next-full (bookTexts (s .args .earlier .now)) (s .args .line .now) (omega (arith, indexed-count _ _ (s .pre .0), c .before .count-of .ensures, c .if1 .taken)))
 
 is-text-requires : tie.Need-is-text-requires
 is-text-requires c κs = search needs
 
-find-line-requires : tie.Need-find-line-requires
-find-line-requires c κs = search needs
+find-keyed-requires : tie.Need-find-keyed-requires
+find-keyed-requires c κs = search needs
 
 enum-told : tie.Need-enum-told
 enum-told c = search needs
@@ -28,34 +33,30 @@ enum-told-2 c = search needs
 
 returns-2 : tie.Need-returns-2
 returns-2 c =
-    let b = c .before .before .before in
-    let s = b .before .before .before .before .before .before in
-    let a = s .args in
-    let t = sym (b .before .is-text .ensures) ∙ b .if2 .taken in
-    let p = place-is _ _ (sym (c .before .before .find-line .ensures) ∙ c .enum-told .given .1) in
-    sym (next-repeated (bookTexts (a .earlier .now)) (a .line .now) t p)
+    let s = c .before .before .before .before .before .before .before .before .before .before in
+    let t = sym (c .before .before .before .before .is-text .ensures) ∙ c .before .before .before .if2 .taken in
+    let p = place-is _ _ (sym (c .before .before .find-keyed .ensures) ∙ c .enum-told .given .1) in
+    sym (next-repeated (bookTexts (s .args .earlier .now)) (s .args .line .now) t p)
 
 returns-3 : tie.Need-returns-3
 returns-3 c =
-    let b = c .before .before .before in
-    let s = b .before .before .before .before .before .before in
-    let a = s .args in
-    let t = sym (b .before .is-text .ensures) ∙ b .if2 .taken in
-    let p = place-is _ _ (sym (c .before .before .find-line .ensures) ∙ c .enum-told2 .given .1) in
-    sym (next-good (bookTexts (a .earlier .now)) (a .line .now) (rw (indexed-count _ _ (s .pre)) (search needs)) t p)
+    let s = c .before .before .before .before .before .before .before .before .before .before in
+    let t = sym (c .before .before .before .before .is-text .ensures) ∙ c .before .before .before .if2 .taken in
+    let p = place-is _ _ (sym (c .before .before .find-keyed .ensures) ∙ c .enum-told2 .given .1) in
+    let few : length (bookTexts (s .args .earlier .now)) < 256 = omega (arith, indexed-count _ _ (s .pre .0), c .before .before .before .before .before .before .count-of .ensures, c .before .before .before .before .before .if1 .left) in
+    sym (next-good (bookTexts (s .args .earlier .now)) (s .args .line .now) few t p)
 
 returns-4 : tie.Need-returns-4
-returns-4 c =
-    let a = c .before .before .before .before .before .before .args in
-    sym (next-no-text (bookTexts (a .earlier .now)) (a .line .now) (sym (c .before .is-text .ensures) ∙ c .if2 .left))
+returns-4 c = let s = c .before .before .before .before .before .before .before in sym (next-no-text (bookTexts (s .args .earlier .now)) (s .args .line .now) (sym (c .before .is-text .ensures) ∙ c .if2 .left))
 
 pub is-next-spec : {M : Type 1} → statement M
 is-next-spec =
     tie.close
     (tie.spec
+    count-of-requires
     returns
     is-text-requires
-    find-line-requires
+    find-keyed-requires
     enum-told
     enum-told-2
     returns-2

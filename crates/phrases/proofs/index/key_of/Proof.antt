@@ -1,7 +1,7 @@
 -- `key_of` meets its contract: the sum so far and the weight of what is left are the weight of the first 64 bytes.
-use Prim.Native.Nat.{suc, _+_, _-_, _*_, _%_, _≤_}
+use Prim.Native.Nat.{suc, _+_, _-_, _*_, _≤_}
 use native.Mathlib.Omega.{arith}
-use mathlib.Core.Path.{_≡_, refl, sym, ap, _∙_}
+use mathlib.Core.Path.{_≡_}
 use lib.ListN.{length, take, drop, length-take}
 use borrow.Author.Needs.{needs}
 use Rattle.phrases.specs.Index.{weigh, key}
@@ -16,8 +16,8 @@ Inv-loop text most sum₀ i₀ sum i =
 abbrev μ-loop : tie.MeasureT-loop
 μ-loop text most sum₀ i₀ sum i = most - i
 
-weighed-requires : tie.Need-weighed-requires Inv-loop μ-loop
-weighed-requires c κs = search needs
+least-requires : tie.Need-least-requires Inv-loop μ-loop
+least-requires c κs = search needs
 
 loop-holds : tie.Need-loop-holds Inv-loop μ-loop
 loop-holds c = (omega arith, omega arith, omega arith)
@@ -58,7 +58,7 @@ returns c =
     let l = c .before in
     let t = l .before .before .before .args .text .now in
     let long : length (take 64 t) ≤ l .loop .i = rw length-take (omega arith) in
-    ap (λ n. n % 65536) (omega (arith, weigh-none t (l .loop .i) (suc (l .loop .i)) long, l .loop .inv .0))
+    omega (arith, weigh-none t (l .loop .i) (suc (l .loop .i)) long, l .loop .inv .0)
 
 pub key-of-spec : {M : Type 1} → statement M
 key-of-spec =
@@ -66,7 +66,7 @@ key-of-spec =
     (tie.spec
     Inv-loop
     μ-loop
-    weighed-requires
+    least-requires
     loop-holds
     shared-slice-read-sum
     cast-sum

@@ -20,11 +20,18 @@ enum-known-i c = search needs
 put-source-requires : tie.Need-put-source-requires
 put-source-requires c κs = search needs
 
+count-of-requires : tie.Need-count-of-requires
+count-of-requires c κs = search needs
+
 width-of-requires : tie.Need-width-of-requires
-width-of-requires c κs = search needs
+width-of-requires c κs =
+    let listed = c .before .before .before .before .before .before .before .before .before .before .before .before .before .before .before .pre .1 .0 in
+    omega (arith, c .count-of .ensures, indexed-count _ _ listed, listed .few)
 
 put-bits-requires : tie.Need-put-bits-requires
-put-bits-requires c κs = rw (c .width-of .ensures) (width-fits _ (search needs))
+put-bits-requires c κs =
+    let listed = c .before .before .before .before .before .before .before .before .before .before .before .before .before .before .before .before .pre .1 .0 in
+    rw (c .width-of .ensures) (width-fits _ (omega (arith, c .before .count-of .ensures, indexed-count _ _ listed, listed .few)))
 
 enum-known-i-2 : tie.Need-enum-known-i-2
 enum-known-i-2 c = search needs
@@ -54,11 +61,11 @@ returns : tie.Need-returns
 unfolding textBits
 returns c =
     let w = c .before .before .before in
-    let s = w .before .before .before .before in
+    let s = w .before .before .before .before .before in
     let f = s .before .before .before .before .before in
     let start = f .before .before .before .before .before .before in
     let found = found-is _ _ (sym (f .find-phrase .ensures) ∙ s .before .before .before .i .given .1) in
-    let size = w .width-of .ensures ∙ ap width (sym (indexed-count _ _ (start .pre .1 .0))) in
+    let size = w .width-of .ensures ∙ ap width (w .before .count-of .ensures ∙ sym (indexed-count _ _ (start .pre .1 .0))) in
     rw found (both _ _ _ _ (s .put-source .ensures) (rw size at (c .before .before .put-bits .ensures)) (start .pre .0))
 
 same-length-2 : tie.Need-same-length-2
@@ -93,6 +100,7 @@ put-text-spec =
     find-phrase-requires
     enum-known-i
     put-source-requires
+    count-of-requires
     width-of-requires
     put-bits-requires
     enum-known-i-2

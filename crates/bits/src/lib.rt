@@ -15,13 +15,6 @@ pub enum Number {
     Ends,
 }
 
-// The smaller of two numbers.
-fn smaller(a: usize, b: usize) -> usize
-    ensures { λ r. ⌜ r ≡ min a b ⌝ }
-{
-    if a < b { a } else { b }
-}
-
 // A power of two.
 fn two_to(k: usize) -> usize
     requires { ⌜ k ≤ 32 ⌝ }
@@ -39,7 +32,7 @@ fn room(bytes: usize, at: usize, width: usize) -> usize
     if bytes <= first {
         return 0;
     }
-    smaller(width, smaller(bytes - first, 5) * 8 - at % 8)
+    output::least(width, output::least(bytes - first, 5) * 8 - at % 8)
 }
 
 // The number that `size` bits of a byte are, from the bit `bit` on.
@@ -89,7 +82,7 @@ fn read_bytes(bytes: &[u8], at: usize, width: usize) -> Number
     let mut bit = at % 8;
     let mut left = width;
     while 0 < left {
-        let size = smaller(8 - bit, left);
+        let size = output::least(8 - bit, left);
         let part = field(bytes[index], bit, size);
         value = value * two_to(size) + part;
         index += (bit + size) / 8;
@@ -119,7 +112,7 @@ fn store(out: &mut [u8], at: usize, width: usize, value: usize)
     let mut bit = at % 8;
     let mut left = width;
     while 0 < left {
-        let size = smaller(8 - bit, left);
+        let size = output::least(8 - bit, left);
         left -= size;
         out[index] = with_field(out[index], bit, size, value / two_to(left));
         index += (bit + size) / 8;

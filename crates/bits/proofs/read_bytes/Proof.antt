@@ -29,7 +29,7 @@ module _ (c : tie.After-two-to Inv-loop μ-loop) where
   head = c .before .before .before .before .before
 
   abbrev size : ℕ
-  size = c .before .before .before .smaller .result
+  size = c .before .before .before .least .result
 
   abbrev place : ℕ
   place = (head .loop .index + (head .loop .bit + size) / 8) * 8 + (head .loop .bit + size) % 8
@@ -51,11 +51,11 @@ returns c =
 loop-holds : tie.Need-loop-holds Inv-loop μ-loop
 loop-holds c = (search needs, search needs, search needs, read-start _ _ _ _ (omega arith))
 
-sub-smaller : tie.Need-sub-smaller Inv-loop μ-loop
-sub-smaller c = search needs
+sub-least : tie.Need-sub-least Inv-loop μ-loop
+sub-least c = search needs
 
-smaller-requires : tie.Need-smaller-requires Inv-loop μ-loop
-smaller-requires c κs = search needs
+least-requires : tie.Need-least-requires Inv-loop μ-loop
+least-requires c κs = search needs
 
 shared-slice-read-field : tie.Need-shared-slice-read-field Inv-loop μ-loop
 shared-slice-read-field c = search needs
@@ -108,8 +108,8 @@ read-bytes-spec =
     room-requires
     returns
     loop-holds
-    sub-smaller
-    smaller-requires
+    sub-least
+    least-requires
     shared-slice-read-field
     field-requires
     two-to-requires

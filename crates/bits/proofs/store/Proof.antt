@@ -20,11 +20,11 @@ abbrev μ-loop : tie.MeasureT-loop
 loop-holds : tie.Need-loop-holds Inv-loop μ-loop
 loop-holds c = (search needs, search needs, search needs, search needs, write-start _ _ _ _ _ (omega arith))
 
-sub-smaller : tie.Need-sub-smaller Inv-loop μ-loop
-sub-smaller c = search needs
+sub-least : tie.Need-sub-least Inv-loop μ-loop
+sub-least c = search needs
 
-smaller-requires : tie.Need-smaller-requires Inv-loop μ-loop
-smaller-requires c κs = search needs
+least-requires : tie.Need-least-requires Inv-loop μ-loop
+least-requires c κs = search needs
 
 sub-left : tie.Need-sub-left Inv-loop μ-loop
 sub-left c = search needs
@@ -59,7 +59,7 @@ loop-less c = search needs
 loop-again : tie.Need-loop-again Inv-loop μ-loop
 loop-again c =
     let l = c .before .before .before .before .before .loop in
-    let size = c .before .before .before .smaller .result in
+    let size = c .before .before .before .least .result in
     let place = (l .index + (l .bit + size) / 8) * 8 + (l .bit + size) % 8 in
     let next =
     write-turn (l .index) (l .bit) (l .left) size _ _ place (l .inv .4) (c .before .two-to .ensures .0) (c .with-field .ensures)
@@ -80,8 +80,8 @@ store-spec =
     Inv-loop
     μ-loop
     loop-holds
-    sub-smaller
-    smaller-requires
+    sub-least
+    least-requires
     sub-left
     slice-read-with-field
     two-to-requires

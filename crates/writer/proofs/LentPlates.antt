@@ -1,5 +1,5 @@
 -- A plate that was made in an array, in a lent buffer.
-use Prim.Native.Nat.{ℕ, zero, suc, _+_, _*_, _/_, _≤_, _<_}
+use Prim.Native.Nat.{ℕ, zero, suc, _+_, _*_, _≤_, _<_}
 use native.Mathlib.Omega.{arith}
 use native.Mathlib.Numerals.{add-one}
 use mathlib.Core.Path.{_≡_, refl, sym, ap, ap₂, _∙_}
@@ -7,7 +7,7 @@ use mathlib.Core.List.{List, [], _∷_, _++_, append-nil, append-assoc}
 use mathlib.Core.Bool.{Bool}
 use lib.ListN.{length, take, drop, set, getD}
 use lib.Seq.{drop-cons, take-suc, set-at, take-at, drop-at, take-length, length-take-le}
-use Rattle.causes.specs.Answers.{Result, made, refused, _>>=_, Answer, wrote, refusing, output, lent}
+use Rattle.causes.specs.Answers.{Result, made, refused, _>>=_, wrote, refusing, output, lent}
 use Rattle.causes.specs.declared.Refusal.{Refusal}
 use Rattle.causes.proofs.Lent.{written, written-fits}
 use Rattle.output.specs.Pour.{poured}

@@ -4,3 +4,4 @@ pub mod Complements
 pub mod LineBits
 pub mod Plates
 pub mod LentPlates
+pub mod Codes

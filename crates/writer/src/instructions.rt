@@ -20,11 +20,10 @@ use transcript::Test;
 
 // A 3-bit code and a register.
 fn put_code(out: &mut [u8], at: usize, code: usize, register: usize) -> usize
-    requires { ⌜ length (now out) ≤ 2953 ⌝ }
+    requires { ⌜ code ≤ 7 ⌝ }
     ensures { λ r. ⌜ (r, bytesBits (now (out .exit))) ≡ poured at (bitsOf 3 code ++ bitsOf 5 register) (bytesBits (now (out .entry))) ⌝ }
 {
-    let end = bits::put_bits(out, at, 3, code);
-    bits::put_bits(out, end, 5, register)
+    bits::put_bits(out, at, 8, code * 32 + register % 32)
 }
 
 // The number of an OP.
@@ -129,8 +128,7 @@ pub fn put_goto(out: &mut [u8], at: usize, skip: usize) -> usize
     requires { ⌜ length (now out) ≤ 2953 ⌝ }
     ensures { λ r. ⌜ (r, bytesBits (now (out .exit))) ≡ poured at (bitsOf 3 4 ++ bitsOf 9 skip) (bytesBits (now (out .entry))) ⌝ }
 {
-    let end = bits::put_bits(out, at, 3, 4);
-    bits::put_bits(out, end, 9, skip)
+    bits::put_bits(out, at, 12, 2048 + skip % 512)
 }
 
 // An if. The phrases do not matter.

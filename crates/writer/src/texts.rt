@@ -1,8 +1,8 @@
 // Texts: spelled, or as the place of a phrase.
 ghost use mathlib.Core.Path.{_≡_};
 ghost use mathlib.Core.List.{_++_};
-ghost use Prim.Native.Nat.{_≤_};
-ghost use lib.ListN.{length, drop};
+ghost use Prim.Native.Nat.{_+_, _≤_, _<_};
+ghost use lib.ListN.{length, drop, getD};
 ghost use Rattle.output.specs.Pour.{poured};
 ghost use Rattle.bits.specs.Bits.{bitsOf, bytesBits};
 ghost use Rattle.text.specs.Parts.{split, comma};
@@ -11,6 +11,29 @@ ghost use Rattle.phrases.specs.Index.{Listed};
 ghost use Rattle.plate.specs.Writing.{spelledBits, ownBit, textBits, textsBits};
 use phrases::Found;
 
+// Three characters from the place i on, 7 bits each, as one number.
+fn three(text: &[u8], i: usize) -> usize
+    requires { ⌜ i + 2 < length (now text) ⌝ }
+    ensures { λ r. ⌜ bitsOf 21 r ≡ bitsOf 7 (getD (now (text .entry)) i 0) ++ bitsOf 7 (getD (now (text .entry)) (i + 1) 0) ++ bitsOf 7 (getD (now (text .entry)) (i + 2) 0) ⌝ }
+{
+    (text[i] as usize * 128 + text[i + 1] as usize % 128) * 128 + text[i + 2] as usize % 128
+}
+
+// The last characters, at most two from the place i on, and ETX.
+fn put_last(out: &mut [u8], at: usize, text: &[u8], i: usize) -> usize
+    requires { ⌜ (i ≤ length (now text)) × (length (now text) ≤ i + 2) ⌝ }
+    ensures { λ r. ⌜ (r, bytesBits (now (out .exit))) ≡ poured at (spelledBits (drop i (now (text .entry)))) (bytesBits (now (out .entry))) ⌝ }
+{
+    if text.len() == i {
+        return bits::put_bits(out, at, 7, 3);
+    }
+    if text.len() == i + 1 {
+        return bits::put_bits(out, at, 14, text[i] as usize * 128 + 3);
+    }
+    let last = text[i + 1] as usize % 128;
+    bits::put_bits(out, at, 21, (text[i] as usize * 128 + last) * 128 + 3)
+}
+
 // The characters of a text in 7 bits each, then ETX.
 pub fn put_spelled(out: &mut [u8], at: usize, text: &[u8]) -> usize
     requires { ⌜ length (now out) ≤ 2953 ⌝ }
@@ -18,11 +41,11 @@ pub fn put_spelled(out: &mut [u8], at: usize, text: &[u8]) -> usize
 {
     let mut end = at;
     let mut i = 0;
-    while i < text.len() {
-        end = bits::put_bits(out, end, 7, text[i] as usize);
-        i += 1;
+    while i + 2 < text.len() {
+        end = bits::put_bits(out, end, 21, three(text, i));
+        i += 3;
     }
-    bits::put_bits(out, end, 7, 3)
+    put_last(out, end, text, i)
 }
 
 // How many own phrases there are.

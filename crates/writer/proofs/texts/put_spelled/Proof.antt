@@ -1,4 +1,5 @@
 -- `put_spelled` meets its contract: the characters from the place i on are left to write.
+use borrow.Author.Needs.{needs}
 use Prim.Native.Nat.{_≤_, _-_}
 use native.Mathlib.Omega.{arith}
 use mathlib.Core.Path.{refl}
@@ -6,7 +7,7 @@ use lib.ListN.{length, drop}
 use borrow.Author.Needs.{needs}
 use Rattle.plate.specs.Writing.{spelledBits}
 use Rattle.writer.proofs.Writes.{Left, begun, turned}
-use Rattle.writer.proofs.TextBits.{spelled-next, spelled-end}
+use Rattle.writer.proofs.TextBits.{three-next}
 use Rattle.writer.proofs.texts.put_spelled.Statement.{statement}
 use Rattle.writer.proofs.texts.put_spelled.Tie as tie
 
@@ -19,11 +20,11 @@ abbrev μ-loop : tie.MeasureT-loop
 loop-holds : tie.Need-loop-holds Inv-loop μ-loop
 loop-holds c = (begun _ _ refl (search needs), search needs)
 
-shared-slice-read-put-bits : tie.Need-shared-slice-read-put-bits Inv-loop μ-loop
-shared-slice-read-put-bits c = search needs
+add-loop : tie.Need-add-loop Inv-loop μ-loop
+add-loop c = search needs
 
-cast-put-bits : tie.Need-cast-put-bits Inv-loop μ-loop
-cast-put-bits c = omega (arith, c .shared-slice-known2 .given (c .before .before .before .loop .i))
+three-requires : tie.Need-three-requires Inv-loop μ-loop
+three-requires c κs = search needs
 
 put-bits-requires : tie.Need-put-bits-requires Inv-loop μ-loop
 put-bits-requires c κs = search needs
@@ -35,16 +36,16 @@ loop-less : tie.Need-loop-less Inv-loop μ-loop
 loop-less c = search needs
 
 loop-again : tie.Need-loop-again Inv-loop μ-loop
-loop-again c = (turned (c .before .before .before .before .before .before .loop .inv .0) _ _ (spelled-next _ _ (c .before .before .before .before .before .loop-test .taken)) (c .before .before .put-bits .ensures) (c .before .before .before .before .before .before .before .before .before .pre), search needs)
+loop-again c = (turned (c .before .before .before .before .before .before .loop .inv .0) _ _ (three-next _ _ _ (c .before .before .before .three .ensures) (c .before .before .before .before .before .loop-test .taken)) (c .before .before .put-bits .ensures) (c .before .before .before .before .before .before .before .before .before .pre), search needs)
 
-put-bits-requires-2 : tie.Need-put-bits-requires-2 Inv-loop μ-loop
-put-bits-requires-2 c κs = search needs
+put-last-requires : tie.Need-put-last-requires Inv-loop μ-loop
+put-last-requires c κs = search needs
 
 same-length : tie.Need-same-length Inv-loop μ-loop
 same-length c = search needs
 
 returns : tie.Need-returns Inv-loop μ-loop
-returns c = c .before .before .before .before .before .loop .inv .0 .makes _ (rw (spelled-end _ _ (c .before .before .before .before .loop-test .left)) (c .before .before .put-bits2 .ensures))
+returns c = c .before .before .before .before .before .loop .inv .0 .makes _ (c .before .before .put-last .ensures)
 
 pub put-spelled-spec : {M : Type 1} → statement M
 put-spelled-spec =
@@ -53,12 +54,12 @@ put-spelled-spec =
     Inv-loop
     μ-loop
     loop-holds
-    shared-slice-read-put-bits
-    cast-put-bits
+    add-loop
+    three-requires
     put-bits-requires
     add-i
     loop-less
     loop-again
-    put-bits-requires-2
+    put-last-requires
     same-length
     returns)

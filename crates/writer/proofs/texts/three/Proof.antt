@@ -1,0 +1,64 @@
+-- `three` meets its contract: each character is 7 bits of the number.
+use Prim.Native.Nat.{_+_}
+use native.Mathlib.Omega.{arith}
+use Rattle.writer.proofs.TextBits.{three-joined}
+use borrow.Author.Needs.{needs}
+use Rattle.writer.proofs.texts.three.Statement.{statement}
+use Rattle.writer.proofs.texts.three.Tie as tie
+
+shared-slice-read-result : tie.Need-shared-slice-read-result
+shared-slice-read-result c = search needs
+
+cast-result : tie.Need-cast-result
+cast-result c = omega (arith, c .shared-slice-known .given (c .before .args .i))
+
+mul-result : tie.Need-mul-result
+mul-result c = omega (arith, c .shared-slice-known .given (c .before .args .i))
+
+add-result : tie.Need-add-result
+add-result c = search needs
+
+shared-slice-read-result-2 : tie.Need-shared-slice-read-result-2
+shared-slice-read-result-2 c = search needs
+
+cast-result-2 : tie.Need-cast-result-2
+cast-result-2 c = omega (arith, c .shared-slice-known2 .given (c .before .before .args .i + 1))
+
+add-result-2 : tie.Need-add-result-2
+add-result-2 c = omega (arith, c .shared-slice-known2 .given (c .before .before .args .i))
+
+mul-result-2 : tie.Need-mul-result-2
+mul-result-2 c = omega (arith, c .shared-slice-known2 .given (c .before .before .args .i))
+
+add-result-3 : tie.Need-add-result-3
+add-result-3 c = search needs
+
+shared-slice-read-result-3 : tie.Need-shared-slice-read-result-3
+shared-slice-read-result-3 c = search needs
+
+cast-result-3 : tie.Need-cast-result-3
+cast-result-3 c = omega (arith, c .shared-slice-known3 .given (c .before .before .before .args .i + 2))
+
+add-result-4 : tie.Need-add-result-4
+add-result-4 c = omega (arith, c .shared-slice-known3 .given (c .before .before .before .args .i))
+
+returns : tie.Need-returns
+returns c = three-joined _ _ _
+
+pub three-spec : {M : Type 1} → statement M
+three-spec =
+    tie.close
+    (tie.spec
+    shared-slice-read-result
+    cast-result
+    mul-result
+    add-result
+    shared-slice-read-result-2
+    cast-result-2
+    add-result-2
+    mul-result-2
+    add-result-3
+    shared-slice-read-result-3
+    cast-result-3
+    add-result-4
+    returns)

@@ -1,12 +1,11 @@
 -- A plate that was made in an array, in a lent buffer.
-use Prim.Native.Nat.{ℕ, zero, suc, _+_, _*_, _≤_, _<_}
+use Prim.Native.Nat.{ℕ, zero, suc, _+_, _*_, _≤_}
 use native.Mathlib.Omega.{arith}
-use native.Mathlib.Numerals.{add-one}
 use mathlib.Core.Path.{_≡_, refl, sym, ap, ap₂, _∙_}
-use mathlib.Core.List.{List, [], _∷_, _++_, append-nil, append-assoc}
+use mathlib.Core.List.{List, [], _∷_, _++_, append-nil}
 use mathlib.Core.Bool.{Bool}
-use lib.ListN.{length, take, drop, set, getD}
-use lib.Seq.{drop-cons, take-suc, set-at, take-at, drop-at, take-length, length-take-le}
+use lib.ListN.{length, take, drop}
+use lib.Seq.{take-at, drop-at, length-take-le}
 use Rattle.causes.specs.Answers.{Result, made, refused, _>>=_, wrote, refusing, output, lent}
 use Rattle.causes.specs.declared.Refusal.{Refusal}
 use Rattle.causes.proofs.Lent.{written, written-fits}
@@ -20,17 +19,6 @@ use Rattle.plate.specs.Writing.{plateSized}
 use Rattle.writer.specs.declared.Room.the-variants.{Bytes, Refused}
 use Rattle.writer.specs.Plates.{plateRoom, roomAnswer, lentBits}
 use Rattle.writer.proofs.Plates.{Octets, room-is, room-fits, counted, leaves, by-room}
-
--- one byte more is copied
-pub copy-next : (array old new : List ℕ) (i : ℕ) → i < length array → i < length old → new ≡ take i array ++ drop i old
-    → set new i (getD array i 0) ≡ take (i + 1) array ++ drop (i + 1) old
-copy-next array old new i h k e =
-    rw
-    (e, drop-cons old i 0 k, set-at (take i array) _ _ (getD array i 0) i (length-take-le i array (omega arith)), add-one, take-suc array i 0 h, append-assoc)
-
-pub copy-all : (bytes old new : List ℕ) (i : ℕ) → i ≤ length bytes → length bytes ≤ i → new ≡ take i bytes ++ drop i old
-    → new ≡ bytes ++ drop (length bytes) old
-copy-all bytes old new i h k e = let n : i ≡ length bytes = omega arith in rw (n, take-length bytes) at e
 
 -- ---- what the code answers
 
@@ -57,12 +45,13 @@ module _ (array : List ℕ) (bits : ℕ) (buffer : List ℕ) where
   unfolding lentBits
   lent-none e = rw (room-is bits (length buffer) e)
 
-  pub lent-copied : {n : ℕ} → roomAnswer (plateRoom bits (length buffer)) ≡ Bytes n → length array ≡ 2953 → Octets array → (new : List ℕ)
-      → new ≡ take n array ++ drop (length (take n array)) buffer → (wrote n, new) ≡ lentBits (bytesBits array) bits buffer
+  pub lent-copied : {n : ℕ} → roomAnswer (plateRoom bits (length buffer)) ≡ Bytes n → length array ≡ 2953 → Octets array → (x : ℕ) (new : List ℕ)
+      → (x, new) ≡ poured 0 (take n array) buffer → (wrote n, new) ≡ lentBits (bytesBits array) bits buffer
   unfolding lentBits
-  lent-copied {n} e h o new c =
+  lent-copied {n} e h o x new w =
       let part = array-part array bits (length buffer) e h in
       let fits = written-fits (made (take n array)) (take n array) buffer refl (part .1) in
+      let c : new ≡ take n array ++ drop (length (take n array)) buffer = stored 0 (take n array) buffer x new w ∙ pour-fits (take n array) buffer (part .1) in
       let answer : wrote n ≡ wrote (length (take n array)) = ap wrote (sym (part .0)) in
       let bytes = bytes-first n array o (omega (arith, room-fits bits (length buffer) e .1)) in
       rw (room-is bits (length buffer) e, bytes) ((λ i. (answer i, c i)) ∙ sym fits)

@@ -14,11 +14,11 @@ enum-known-r c = search needs
 enum-known-length : tie.Need-enum-known-length
 enum-known-length c = search needs
 
-slice-aggregate-copy : tie.Need-slice-aggregate-copy
-slice-aggregate-copy c = sym (array-part _ _ _ (sym (c .before .before .before .before .plate-room .ensures) ∙ c .before .before .length .given .1) (c .before .before .before .before .before .before .before .pre) .0)
+slice-aggregate-put : tie.Need-slice-aggregate-put
+slice-aggregate-put c = sym (array-part _ _ _ (sym (c .before .before .before .before .before .plate-room .ensures) ∙ c .before .before .before .length .given .1) (c .before .before .before .before .before .before .before .before .pre) .0)
 
-copy-requires : tie.Need-copy-requires
-copy-requires c κs = array-part _ _ _ (sym (c .before .before .before .before .before .plate-room .ensures) ∙ c .before .before .before .length .given .1) (c .before .before .before .before .before .before .before .before .pre) .1
+put-requires : tie.Need-put-requires
+put-requires c κs = search needs
 
 returns : tie.Need-returns
 returns c = lent-none _ _ _ (sym (c .before .before .before .plate-room .ensures) ∙ c .before .r .given .1)
@@ -27,7 +27,7 @@ same-length : tie.Need-same-length
 same-length c = search needs
 
 returns-2 : tie.Need-returns-2
-returns-2 c = lent-copied _ _ _ (sym (c .before .before .before .before .before .before .before .before .plate-room .ensures) ∙ c .before .before .before .before .before .before .length .given .1) (c .before .before .before .before .before .before .before .before .before .before .before .pre) (λ i. c .before .before .before .before .before .before .before .before .before .before .shared-slice-known .given i .fits) _ (c .before .before .copy .ensures)
+returns-2 c = lent-copied _ _ _ (sym (c .before .before .before .before .before .before .before .before .plate-room .ensures) ∙ c .before .before .before .before .before .before .length .given .1) (c .before .before .before .before .before .before .before .before .before .before .before .pre) (λ i. c .before .before .before .before .before .before .before .before .before .before .shared-slice-known .given i .fits) _ _ (c .before .before .put .ensures)
 
 pub lend-spec : {M : Type 1} → statement M
 lend-spec =
@@ -36,8 +36,8 @@ lend-spec =
     plate-room-requires
     enum-known-r
     enum-known-length
-    slice-aggregate-copy
-    copy-requires
+    slice-aggregate-put
+    put-requires
     returns
     same-length
     returns-2)

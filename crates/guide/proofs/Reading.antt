@@ -7,8 +7,7 @@ use mathlib.Core.Bool.{true, false, false≢true}
 use lib.ListN.{length, take, drop, getD, drop-of-length-le}
 use Rattle.causes.specs.declared.Cause.the-variants.{Byte}
 use Rattle.text.specs.Parts.{split, partsFrom, untilByte, same, all, comma, LF}
-use Rattle.text.proofs.Places.{part-first, part-last, parts-whole, parts-next}
-use Rattle.text.proofs.Splits.{Some, split-some}
+use Rattle.text.proofs.Places.{part-last, parts-whole, parts-next}
 use Rattle.transcript.specs.Statement.{input, inputs, print, printex}
 use Rattle.lines.specs.declared.Form.the-variants.{Guide as aGuide}
 use Rattle.lines.specs.declared.Head.{Head}
@@ -20,7 +19,7 @@ use Rattle.lines.specs.declared.words.Kind.{Kind}
 use Rattle.lines.specs.Words.{kindOf}
 use Rattle.lines.specs.Clean.{isClean, Clean}
 use Rattle.lines.proofs.FieldsRead.{ReadAs, as-fault, as-phrase, as-input, as-inputs, as-print, as-printex, as-if, as-else, as-fi, line-read-as}
-use Rattle.lines.proofs.CleanTexts.{clean-behind}
+use Rattle.lines.proofs.CleanTexts.{lines-next, clean-behind}
 use Rattle.guide.specs.declared.Role.{Role}
 use Rattle.guide.specs.declared.Role.the-variants.{Statement, If, Else, Fi, Nothing}
 use Rattle.guide.specs.declared.Here.{Here}
@@ -40,10 +39,6 @@ role-head (gotoLine k) = refl
 role-head (ifSkipLine test k) = refl
 role-head (faulty c) = refl
 
-more-lines : (p : List ℕ) (ps : List (List ℕ)) → Some ps → linesIn aGuide (p ∷ ps) ≡ lineOf aGuide p ∷ linesIn aGuide ps
-unfolding linesIn
-more-lines p ps (q, qs, e) = rw e
-
 unended-none : (p : List ℕ) → bodyLines (unended p) ≡ []
 unfolding bodyLines
 unended-none [] = refl
@@ -59,21 +54,16 @@ module _ (g : List ℕ) (a e : ℕ) (k : e ≡ a + untilByte LF (drop a g)) wher
   unfolding linesAt linesIn
   no-line l = rw (part-last LF g a e k l) (unended-none (take (e - a) (drop a g)))
 
-  first-line : e < length g → linesOf aGuide (drop a g) ≡ lineOf aGuide (take (e - a) (drop a g)) ∷ linesOf aGuide (drop (e + 1) g)
-  first-line l =
-      ap (linesIn aGuide) (part-first LF g a e k l)
-      ∙ more-lines (take (e - a) (drop a g)) (split LF (drop (e + 1) g)) (split-some LF (drop (e + 1) g))
-
   -- a line of a block
   line-in : e < length g → inBlock (roleOf (lineOf aGuide (take (e - a) (drop a g)))) ≡ true
       → linesAt g a ≡ lineOf aGuide (take (e - a) (drop a g)) ∷ linesAt g (e + 1)
   unfolding linesAt bodyLines
-  line-in l v = ap bodyLines (first-line l) ∙ rw (v, bodyLines)
+  line-in l v = ap bodyLines (lines-next aGuide g a e k l) ∙ rw (v, bodyLines)
 
   -- a line of no block
   line-out : e < length g → inBlock (roleOf (lineOf aGuide (take (e - a) (drop a g)))) ≡ false → linesAt g a ≡ linesAt g (e + 1)
   unfolding linesAt bodyLines
-  line-out l v = ap bodyLines (first-line l) ∙ rw (v, bodyLines)
+  line-out l v = ap bodyLines (lines-next aGuide g a e k l) ∙ rw (v, bodyLines)
 
 -- ---- what is read from a on, where the lines from b on are the same
 

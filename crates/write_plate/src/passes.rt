@@ -30,7 +30,7 @@ fn produce(
     while a < listing.len() {
         let e = text::find(listing, a, b'\n');
         let line = &listing[a..e];
-        let head = lines::read_line(Form::Listing, line);
+        let head = lines::accepted_line(Form::Listing, line);
         end = writer::put_line(out, end, head, line, index, book, listing, own);
         a = e + 1;
     }

@@ -69,7 +69,7 @@ pub fn first_past(listing: &[u8], own: usize, instructions: usize) -> Past
     let mut a = 0;
     while a < listing.len() {
         let e = text::find(listing, a, b'\n');
-        let head = lines::read_line(Form::Listing, &listing[a..e]);
+        let head = lines::accepted_line(Form::Listing, &listing[a..e]);
         let behind = left - count_of(head);
         if behind < skip_of(head) {
             return Past::Line(own + instructions - behind);

@@ -11,7 +11,7 @@ use Rattle.plate.specs.Writing.{instructionsBits, programBits}
 use Rattle.listing.specs.Listing.{instructionsOf}
 use Rattle.writer.proofs.Writes.{both, Left, begun, turned, done}
 use Rattle.writer.proofs.Plates.{filling}
-use Rattle.write_plate.proofs.Ahead.{Ahead, ahead-next}
+use Rattle.write_plate.proofs.Ahead.{Ahead, first-clean, ahead-next}
 use Rattle.write_plate.proofs.AcceptedListing.{few-own, phrases-count, instructions-count, accepted-ahead}
 use Rattle.write_plate.proofs.InstructionLines.{instructionsFrom, bits-next, bits-end}
 use Rattle.write_plate.proofs.passes.produce.Statement.{statement}
@@ -44,8 +44,8 @@ part-line-start c = search needs
 part-line-end : tie.Need-part-line-end Inv-loop μ-loop
 part-line-end c = search needs
 
-read-line-requires : tie.Need-read-line-requires Inv-loop μ-loop
-read-line-requires c κs = search needs
+accepted-line-requires : tie.Need-accepted-line-requires Inv-loop μ-loop
+accepted-line-requires c κs = first-clean _ _ _ (c .before .before .before .loop .inv .0) (c .before .before .loop-test .taken) (c .before .find .ensures .0) (c .before .find .ensures .1)
 
 put-line-requires : tie.Need-put-line-requires Inv-loop μ-loop
 put-line-requires c κs =
@@ -65,7 +65,7 @@ loop-again c =
     let test = f .before .loop-test .taken in
     let inv = f .before .before .loop .inv in
     let e = f .find .ensures in
-    let next = bits-next _ _ _ (inv .0) test (e .0) (e .1) _ _ (c .before .before .before .before .read-line .ensures) in
+    let next = bits-next _ _ _ (inv .0) test (e .0) (e .1) _ _ (c .before .before .before .before .accepted-line .ensures) in
     (ahead-next _ _ _ (inv .0) test (e .0) (e .1), turned (inv .1) _ _ next (c .before .before .put-line .ensures) (omega arith))
 
 put-fill-requires : tie.Need-put-fill-requires Inv-loop μ-loop
@@ -95,7 +95,7 @@ produce-spec =
     sub-line
     part-line-start
     part-line-end
-    read-line-requires
+    accepted-line-requires
     put-line-requires
     add-a
     loop-less

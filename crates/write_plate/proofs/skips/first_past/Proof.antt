@@ -6,6 +6,7 @@ use lib.ListN.{length}
 use borrow.Author.Needs.{needs}
 use Rattle.write_plate.specs.Skips.{pastAnswer}
 use Rattle.write_plate.proofs.AcceptedListing.{few-own, few-instructions}
+use Rattle.write_plate.proofs.Ahead.{first-clean}
 use Rattle.write_plate.proofs.Searched.{Searched, searched-none, searched-end, counts-one, goes-past, goes-on}
 use Rattle.write_plate.proofs.skips.first_past.Statement.{statement}
 use Rattle.write_plate.proofs.skips.first_past.Tie as tie
@@ -22,17 +23,17 @@ loop-holds c = searched-none _ _ _ (c .before .pre)
 find-requires : tie.Need-find-requires Inv-loop μ-loop
 find-requires c κs = search needs
 
-sub-read-line : tie.Need-sub-read-line Inv-loop μ-loop
-sub-read-line c = search needs
+sub-accepted-line : tie.Need-sub-accepted-line Inv-loop μ-loop
+sub-accepted-line c = search needs
 
-part-read-line-start : tie.Need-part-read-line-start Inv-loop μ-loop
-part-read-line-start c = search needs
+part-accepted-line-start : tie.Need-part-accepted-line-start Inv-loop μ-loop
+part-accepted-line-start c = search needs
 
-part-read-line-end : tie.Need-part-read-line-end Inv-loop μ-loop
-part-read-line-end c = search needs
+part-accepted-line-end : tie.Need-part-accepted-line-end Inv-loop μ-loop
+part-accepted-line-end c = search needs
 
-read-line-requires : tie.Need-read-line-requires Inv-loop μ-loop
-read-line-requires c κs = search needs
+accepted-line-requires : tie.Need-accepted-line-requires Inv-loop μ-loop
+accepted-line-requires c κs = first-clean _ _ _ (c .before .before .before .loop .inv .ahead) (c .before .before .loop-test .taken) (c .before .find .ensures .0) (c .before .find .ensures .1)
 
 count-of-requires : tie.Need-count-of-requires Inv-loop μ-loop
 count-of-requires c κs = search needs
@@ -41,7 +42,7 @@ sub-behind : tie.Need-sub-behind Inv-loop μ-loop
 sub-behind c =
     let f = c .before .before .before in
     let e = f .find .ensures in
-    counts-one (f .before .before .loop .inv) (f .before .loop-test .taken) (e .0) (e .1) (c .before .read-line .ensures) (c .count-of .ensures)
+    counts-one (f .before .before .loop .inv) (f .before .loop-test .taken) (e .0) (e .1) (c .before .accepted-line .ensures) (c .count-of .ensures)
 
 skip-of-requires : tie.Need-skip-of-requires Inv-loop μ-loop
 skip-of-requires c κs = search needs
@@ -56,7 +57,7 @@ returns : tie.Need-returns Inv-loop μ-loop
 returns c =
     let f = c .before .before .before .before .before in
     let e = f .find .ensures in
-    let head = c .before .before .before .read-line .ensures in
+    let head = c .before .before .before .accepted-line .ensures in
     let test = f .before .loop-test .taken in
     let past = goes-past (f .before .before .loop .inv) test (e .0) (e .1) head (c .before .before .count-of .ensures) (c .before .skip-of .ensures) (c .if1 .taken) in
     sym (ap pastAnswer past)
@@ -71,7 +72,7 @@ loop-again : tie.Need-loop-again Inv-loop μ-loop
 loop-again c =
     let f = c .before .before .before .before .before in
     let e = f .find .ensures in
-    let head = c .before .before .before .read-line .ensures in
+    let head = c .before .before .before .accepted-line .ensures in
     let test = f .before .loop-test .taken in
     goes-on (f .before .before .loop .inv) test (e .0) (e .1) head (c .before .before .count-of .ensures) (c .before .skip-of .ensures) (c .if1 .left)
 
@@ -86,10 +87,10 @@ first-past-spec =
     μ-loop
     loop-holds
     find-requires
-    sub-read-line
-    part-read-line-start
-    part-read-line-end
-    read-line-requires
+    sub-accepted-line
+    part-accepted-line-start
+    part-accepted-line-end
+    accepted-line-requires
     count-of-requires
     sub-behind
     skip-of-requires

@@ -1,5 +1,5 @@
 -- What an answer says of what was looked for.
-use Prim.Native.Nat.{ℕ, _≤_}
+use Prim.Native.Nat.{ℕ}
 use mathlib.Core.Path.{_≡_, refl, sym, ap, _∙_}
 use mathlib.Core.List.{List}
 use mathlib.Core.Option.{Option, none, some}
@@ -18,7 +18,6 @@ use Rattle.phrases.specs.declared.Found.the-variants.{InBook, InOwn, Now
 use Rattle.phrases.specs.declared.index.Place.{Place}
 use Rattle.phrases.specs.declared.index.Place.the-variants.{At, Missing}
 use Rattle.phrases.proofs.Texts.{Checks, book-checks}
-use Rattle.phrases.proofs.BookValid.{book-ok}
 
 -- ---- of the search among texts
 
@@ -68,6 +67,3 @@ module _ (b : List ℕ) where
 
   pub book-count-is : {n : ℕ} → bookAnswer (bookPhrases b) ≡ Holds n → n ≡ length (bookTexts b)
   book-count-is {n} h = let e : Holds n ≡ Holds (length (bookTexts b)) = sym h ∙ ap bookAnswer (book-is h) in cc
-
-  pub book-few : {n : ℕ} → bookAnswer (bookPhrases b) ≡ Holds n → n ≤ 256
-  book-few h = rw (book-count-is h) (book-ok b (bookTexts b) (book-is h) .1)

@@ -8,7 +8,7 @@ use mathlib.Core.List.{List, [], _∷_, _++_, append-nil, append-assoc}
 use mathlib.Core.Bool.{Bool, true, false, true≢false}
 use mathlib.Core.Option.{none}
 use lib.ListN.{length, take, drop, getD, set, length-set, length-drop, length-append, replicate, getD-replicate}
-use lib.Seq.{length-take-le, take-suc, take-all, take-append-seam, set-append-left}
+use lib.Seq.{length-take-le, take-all, take-append-seam, set-append-left}
 use Rattle.output.specs.Pour.{pour}
 use Rattle.output.proofs.Pour.{pour-none, pour-one, pour-then, pour-fits, pour-length}
 use Rattle.text.specs.Parts.{split}
@@ -24,13 +24,6 @@ use Rattle.phrases.proofs.Keys.{different-none, different-more}
 use Rattle.phrases.proofs.Entries.{index-length, last-at, behind-more}
 
 -- ---- writing at the front
-
--- one more of what is written
-pub pour-more : (new old : List ℕ) (k d : ℕ) → k < length new → set (pour 0 (take k new) old) k (getD new k d) ≡ pour 0 (take (suc k) new) old
-pour-more new old k d h =
-    let long : length (take k new) ≡ k = length-take-le k new (omega arith) in
-    let then = rw (zero-add, long) at (pour-then 0 (take k new) (getD new k d ∷ []) old) in
-    rw (take-suc new k d h) (sym (pour-one k (getD new k d) (pour 0 (take k new) old)) ∙ then)
 
 -- a change of what is written
 pour-set : (new old : List ℕ) (k v : ℕ) → k < length new → set (pour 0 new old) k v ≡ pour 0 (set new k v) old

@@ -15,7 +15,7 @@ large    512 instructions, 192 inputs of 8 options and 320 prints, which is all 
          240 such phrases, behind them 16 of one letter, which the guide uses, since longer ones do not fit a guide
 spelled  51 prints of 64 bytes and 2 inputs, none a phrase of the full book of 256 phrases: a plate of 2,953 bytes
 book     an empty guide with that full book: the check of the book alone
-lines    512 lines print,a, empty book
+lines    512 lines print,a, and their plate, empty book
 plate    the plate of 2,953 bytes of spelled texts, empty book";
 
 /// A size, how it is made, and the calls that are measured on it.
@@ -36,7 +36,7 @@ pub const ALL: [Size; 8] = [
     },
     Size { name: "spelled", subject: spelled_with_book, calls: &Call::ALL },
     Size { name: "book", subject: book, calls: &[Call::Translate] },
-    Size { name: "lines", subject: short, calls: &[Call::Translate, Call::WritePlate, Call::Walk] },
+    Size { name: "lines", subject: short, calls: &Call::ALL },
     Size { name: "plate", subject: plate, calls: &[Call::WritePlate, Call::ReadPlate, Call::Run] },
 ];
 

@@ -1,17 +1,17 @@
 -- `clear` meets its contract: the first i numbers are those of the index of no texts, each 0.
 use borrow.Author.Needs.{needs}
 use native.Mathlib.Omega.{arith}
-use native.Mathlib.Numerals.{add-one}
+use native.Mathlib.Nat.{zero-add}
 use Prim.Native.Nat.{_-_, _≤_}
 use mathlib.Core.Path.{_≡_, sym, ap, _∙_}
 use mathlib.Core.List.{[]}
 use lib.ListN.{length, take}
 use lib.Seq.{take-all}
 use Rattle.output.specs.Pour.{pour}
-use Rattle.output.proofs.Pour.{pour-none, pour-length}
+use Rattle.output.proofs.Pour.{pour-none, pour-more, pour-length}
 use Rattle.phrases.specs.Index.{indexOf}
 use Rattle.phrases.proofs.Entries.{index-length}
-use Rattle.phrases.proofs.Entered.{pour-more, none-zero}
+use Rattle.phrases.proofs.Entered.{none-zero}
 use Rattle.phrases.proofs.numbers.clear.Statement.{statement}
 use Rattle.phrases.proofs.numbers.clear.Tie as tie
 
@@ -42,8 +42,8 @@ loop-again : tie.Need-loop-again Inv-loop μ-loop
 loop-again c =
     let l = c .before in
     let old = l .before .args .index .now in
-    let more = rw (none-zero (l .loop .i) (c .loop-test .taken)) at (pour-more (indexOf []) old (l .loop .i) 0 (omega (arith, index-length [], c .loop-test .taken))) in
-    (rw (add-one, l .loop .inv .0) more, search needs)
+    let more = rw (none-zero (l .loop .i) (c .loop-test .taken), zero-add) at (pour-more 0 (l .loop .i) (indexOf []) old 0 (omega (arith, index-length [], c .loop-test .taken))) in
+    (rw (l .loop .inv .0) (sym more), search needs)
 
 same-length : tie.Need-same-length Inv-loop μ-loop
 same-length c =

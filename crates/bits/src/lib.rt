@@ -1,4 +1,4 @@
-// Numbers of 0 to 32 bits in a byte buffer, at any bit of it, highest bit first.
+// Numbers of 0 to 32 bits read, and of 0 to 56 bits written, in a byte buffer, at any bit of it, highest bit first.
 // Reading finds the number, or that the buffer ends inside it. Writing stores each bit that has room, changes no other bit, and
 // returns the place behind the bits, with room or without: a first pass over no buffer at all counts the bits of the whole.
 // specs/Bits.antt says what the bits of numbers and of bytes are, and how they are filled up to whole bytes.
@@ -17,22 +17,22 @@ pub enum Number {
 
 // A power of two.
 fn two_to(k: usize) -> usize
-    requires { ⌜ k ≤ 32 ⌝ }
+    requires { ⌜ k ≤ 63 ⌝ }
     ensures { λ r. ⌜ (r ≡ 2 ^ k) × (0 < r) ⌝ }
 {
     1 << k
 }
 
-// How many of `width` bits from the bit `at` on have room in so many bytes. Five bytes have room for 32 bits from any bit on.
+// How many of `width` bits from the bit `at` on have room in so many bytes. Eight bytes have room for 56 bits from any bit on.
 fn room(bytes: usize, at: usize, width: usize) -> usize
-    requires { ⌜ width ≤ 32 ⌝ }
+    requires { ⌜ width ≤ 56 ⌝ }
     ensures { λ r. ⌜ r ≡ min width (bytes * 8 - at) ⌝ }
 {
     let first = at / 8;
     if bytes <= first {
         return 0;
     }
-    output::least(width, output::least(bytes - first, 5) * 8 - at % 8)
+    output::least(width, output::least(bytes - first, 8) * 8 - at % 8)
 }
 
 // The number that `size` bits of a byte are, from the bit `bit` on.
@@ -43,33 +43,34 @@ fn field(byte: u8, bit: usize, size: usize) -> usize
     byte as usize / two_to(8 - bit - size) % two_to(size)
 }
 
-// The number that four bytes are, from a byte on.
+// The number that eight bytes are, from a byte on. Nested so, it is compiled to one load.
 fn word(bytes: &[u8], index: usize) -> usize
-    requires { ⌜ index + 3 < length (now bytes) ⌝ }
-    ensures { λ r. ⌜ r ≡ valueOf (take 32 (drop (index * 8) (bytesBits (now (bytes .entry))))) ⌝ }
+    requires { ⌜ index + 7 < length (now bytes) ⌝ }
+    ensures { λ r. ⌜ r ≡ valueOf (take 64 (drop (index * 8) (bytesBits (now (bytes .entry))))) ⌝ }
 {
-    bytes[index] as usize * 16777216
-        + bytes[index + 1] as usize * 65536
-        + bytes[index + 2] as usize * 256
-        + bytes[index + 3] as usize
+    let a = (bytes[index] as usize * 256 + bytes[index + 1] as usize) * 256
+        + bytes[index + 2] as usize;
+    let b = (a * 256 + bytes[index + 3] as usize) * 256 + bytes[index + 4] as usize;
+    let c = (b * 256 + bytes[index + 5] as usize) * 256 + bytes[index + 6] as usize;
+    c * 256 + bytes[index + 7] as usize
 }
 
-// The number that `width` bits of the bytes are, from the bit `at` on. Up to 25 bits lie in four bytes, which are read as one number.
+// The number that `width` bits of the bytes are, from the bit `at` on. They lie in eight bytes, which are read as one number.
 pub fn read_number(bytes: &[u8], at: usize, width: usize) -> Number
     requires { ⌜ width ≤ 32 ⌝ }
     ensures { λ r. ⌜ r ≡ numberIn width (drop at (bytesBits (now (bytes .entry)))) ⌝ }
 {
     let index = at / 8;
-    if width <= 25 {
-        if index + 3 < bytes.len() {
-            let unit = two_to(32 - at % 8 - width);
+    if 0 < width {
+        if index + 7 < bytes.len() {
+            let unit = two_to(64 - at % 8 - width);
             return Number::Is((word(bytes, index) / unit % two_to(width)) as u32);
         }
     }
     read_bytes(bytes, at, width)
 }
 
-// The same, byte by byte: a number of more bits, or at the end of the bytes.
+// The same, byte by byte: at the end of the bytes, or a number of no bits.
 fn read_bytes(bytes: &[u8], at: usize, width: usize) -> Number
     requires { ⌜ width ≤ 32 ⌝ }
     ensures { λ r. ⌜ r ≡ numberIn width (drop at (bytesBits (now (bytes .entry)))) ⌝ }
@@ -105,7 +106,7 @@ fn with_field(byte: u8, bit: usize, size: usize, value: usize) -> u8
 
 // The lowest `width` bits of a number, stored from the bit `at` on, where all of them have room.
 fn store(out: &mut [u8], at: usize, width: usize, value: usize)
-    requires { ⌜ (width ≤ 32) × (width ≤ length (now out) * 8 - at) ⌝ }
+    requires { ⌜ (width ≤ 56) × (width ≤ length (now out) * 8 - at) ⌝ }
     ensures { λ _. ⌜ bytesBits (now (out .exit)) ≡ pour at (bitsOf width value) (bytesBits (now (out .entry))) ⌝ }
 {
     let mut index = at / 8;
@@ -122,42 +123,46 @@ fn store(out: &mut [u8], at: usize, width: usize, value: usize)
 
 // The lowest `width` bits of a number, stored from the bit `at` on as far as the buffer goes.
 fn put_room(out: &mut [u8], at: usize, width: usize, value: usize)
-    requires { ⌜ width ≤ 32 ⌝ }
+    requires { ⌜ width ≤ 56 ⌝ }
     ensures { λ _. ⌜ bytesBits (now (out .exit)) ≡ pour at (bitsOf width value) (bytesBits (now (out .entry))) ⌝ }
 {
     let count = room(out.len(), at, width);
     store(out, at, count, value / two_to(width - count));
 }
 
-// The number of four bytes with the lowest `width` bits of another in place of its own, from the bit `bit` on.
+// The number of eight bytes with the lowest `width` bits of another in place of its own, from the bit `bit` on.
 fn with_bits(word: usize, bit: usize, width: usize, value: usize) -> usize
-    requires { ⌜ (bit + width ≤ 32) × (word < 4294967296) ⌝ }
-    ensures { λ r. ⌜ (bitsOf 32 r ≡ pour bit (bitsOf width value) (bitsOf 32 word)) × (r < 4294967296) ⌝ }
+    requires { ⌜ (bit + width ≤ 64) × (0 < width) × (width < 64) ⌝ }
+    ensures { λ r. ⌜ bitsOf 64 r ≡ pour bit (bitsOf width value) (bitsOf 64 word) ⌝ }
 {
-    let unit = two_to(32 - bit - width);
+    let unit = two_to(64 - bit - width);
     let values = two_to(width);
     (word / unit / values * values + value % values) * unit + word % unit
 }
 
-// The number of four bytes, stored from a byte on.
+// The number of eight bytes, stored from a byte on.
 fn store_word(out: &mut [u8], index: usize, word: usize)
-    requires { ⌜ (index + 3 < length (now out)) × (word < 4294967296) ⌝ }
-    ensures { λ _. ⌜ bytesBits (now (out .exit)) ≡ pour (index * 8) (bitsOf 32 word) (bytesBits (now (out .entry))) ⌝ }
+    requires { ⌜ index + 7 < length (now out) ⌝ }
+    ensures { λ _. ⌜ bytesBits (now (out .exit)) ≡ pour (index * 8) (bitsOf 64 word) (bytesBits (now (out .entry))) ⌝ }
 {
-    out[index] = (word / 16777216) as u8;
-    out[index + 1] = (word / 65536 % 256) as u8;
-    out[index + 2] = (word / 256 % 256) as u8;
-    out[index + 3] = (word % 256) as u8;
+    out[index] = (word / 72057594037927936) as u8;
+    out[index + 1] = (word / 281474976710656 % 256) as u8;
+    out[index + 2] = (word / 1099511627776 % 256) as u8;
+    out[index + 3] = (word / 4294967296 % 256) as u8;
+    out[index + 4] = (word / 16777216 % 256) as u8;
+    out[index + 5] = (word / 65536 % 256) as u8;
+    out[index + 6] = (word / 256 % 256) as u8;
+    out[index + 7] = (word % 256) as u8;
 }
 
-// As `put_room`. Up to 25 bits lie in four bytes, which are read and stored as one number.
+// As `put_room`. Up to 56 bits lie in eight bytes, which are read and stored as one number.
 fn put_word(out: &mut [u8], at: usize, width: usize, value: usize)
-    requires { ⌜ width ≤ 32 ⌝ }
+    requires { ⌜ width ≤ 56 ⌝ }
     ensures { λ _. ⌜ bytesBits (now (out .exit)) ≡ pour at (bitsOf width value) (bytesBits (now (out .entry))) ⌝ }
 {
     let index = at / 8;
-    if width <= 25 {
-        if index + 3 < out.len() {
+    if 0 < width {
+        if index + 7 < out.len() {
             let old = word(out, index);
             store_word(out, index, with_bits(old, at % 8, width, value));
             return;
@@ -168,7 +173,7 @@ fn put_word(out: &mut [u8], at: usize, width: usize, value: usize)
 
 // The lowest `width` bits of a number, stored from the bit `at` on as far as the buffer goes, and the place behind them.
 pub fn put_bits(out: &mut [u8], at: usize, width: usize, value: usize) -> usize
-    requires { ⌜ width ≤ 32 ⌝ }
+    requires { ⌜ width ≤ 56 ⌝ }
     ensures { λ r. ⌜ (r, bytesBits (now (out .exit))) ≡ poured at (bitsOf width value) (bytesBits (now (out .entry))) ⌝ }
 {
     let end = output::sum(at, width);

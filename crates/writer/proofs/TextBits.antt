@@ -103,9 +103,9 @@ unfolding ownBits
 own-some [] h = absurd (h refl)
 own-some (t ∷ ts) h = let e : suc (length ts) - 1 ≡ length ts = omega arith in rw e
 
--- ---- a place fits a number of 32 bits
+-- ---- a place fits a number of 56 bits
 
-pub width-fits : (n : ℕ) → n ≤ 65536 → width n ≤ 32
+pub width-fits : (n : ℕ) → n ≤ 65536 → width n ≤ 56
 width-fits n h = omega (arith, width-least n 16 h)
 
 pub own-counted : (k : ℕ) (own : List ℕ) → length (ownTexts k own) ≤ k

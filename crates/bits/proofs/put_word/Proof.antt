@@ -1,7 +1,6 @@
--- `bits::put_word` meets its contract: four bytes with their new bits, or as many as there are. Assumes nothing.
-use Prim.Native.Nat.{_/_}
+-- `bits::put_word` meets its contract: eight bytes with their new bits, or as many as there are. Assumes nothing.
 use native.Mathlib.Omega.{arith}
-use Rattle.bits.proofs.WordWriting.{word-written, word-small}
+use Rattle.bits.proofs.WordWriting.{word-written}
 use borrow.Author.Needs.{needs}
 use Rattle.bits.proofs.put_word.Statement.{statement}
 use Rattle.bits.proofs.put_word.Tie as tie
@@ -13,7 +12,7 @@ word-requires : tie.Need-word-requires
 word-requires c κs = search needs
 
 with-bits-requires : tie.Need-with-bits-requires
-with-bits-requires c κs = (omega arith, word-small _ (c .before .before .before .before .before .before .args .at / 8) _ (search needs) (c .before .word .ensures))
+with-bits-requires c κs = search needs
 
 store-word-requires : tie.Need-store-word-requires
 store-word-requires c κs = search needs
@@ -22,7 +21,7 @@ same-length : tie.Need-same-length
 same-length c = search needs
 
 returns : tie.Need-returns
-returns c = let a = c .before .before .before .before .before .before .before .before .before .before .args in word-written (a .out .now) (a .at) (a .width) (a .value) _ _ (search needs) (omega arith) (c .before .before .before .before .before .word .ensures) (c .before .before .before .with-bits .ensures .0) (c .before .before .store-word .ensures)
+returns c = let a = c .before .before .before .before .before .before .before .before .before .before .args in word-written (a .out .now) (a .at) (a .width) (a .value) _ _ (search needs) (omega arith) (c .before .before .before .before .before .word .ensures) (c .before .before .before .with-bits .ensures) (c .before .before .store-word .ensures)
 
 put-room-requires : tie.Need-put-room-requires
 put-room-requires c κs = search needs

@@ -16,11 +16,11 @@ module _ (c : tie.After-two-to2) where
   abbrev upper : ℕ
   upper = start .args .word / unit / c .two-to2 .result * c .two-to2 .result + start .args .value % c .two-to2 .result
 
-  -- the new number has 32 bits, and so nothing on the way to it is too large
-  below : (upper ≤ upper * unit) × (upper * unit + start .args .word % unit < 4294967296)
+  -- the new number has 64 bits, and so nothing on the way to it is too large
+  below : (upper ≤ upper * unit) × (upper * unit + start .args .word % unit < 18446744073709551616)
   below =
-      field-below 32 (start .args .bit) (start .args .width) _ _ (search needs) (c .before .two-to .ensures .0) (c .two-to2 .ensures .0)
-      (start .args .word) (start .args .value) (search needs)
+      field-below 64 (start .args .bit) (start .args .width) _ _ (search needs) (c .before .two-to .ensures .0) (c .two-to2 .ensures .0)
+      (start .args .word) (start .args .value) (omega arith)
 
 sub-two-to : tie.Need-sub-two-to
 sub-two-to c = search needs
@@ -59,7 +59,9 @@ add-result-2 : tie.Need-add-result-2
 add-result-2 c = omega (arith, below c)
 
 returns : tie.Need-returns
-returns c = let a = c .before .before .args in (field-set 32 (a .bit) (a .width) _ _ (search needs) (c .before .two-to .ensures .0) (c .two-to2 .ensures .0) (a .word) (a .value), below c .1)
+returns c =
+    let a = c .before .before .args in
+    field-set 64 (a .bit) (a .width) _ _ (search needs) (c .before .two-to .ensures .0) (c .two-to2 .ensures .0) (a .word) (a .value)
 
 pub with-bits-spec : {M : Type 1} → statement M
 with-bits-spec =

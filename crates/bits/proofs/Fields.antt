@@ -41,9 +41,13 @@ low-bits w v =
     (value-of-low-bits w (v % 2 ^ w) ∙ mod-mod v (2 ^ w) ∙ sym (value-of-low-bits w v))
 
 -- a number of two parts has the bits of both
-pub bits-join : (h l hi lo : ℕ) → lo < 2 ^ l → bitsOf (h + l) (hi * 2 ^ l + lo) ≡ bitsOf h hi ++ bitsOf l lo
+bits-join : (h l hi lo : ℕ) → lo < 2 ^ l → bitsOf (h + l) (hi * 2 ^ l + lo) ≡ bitsOf h hi ++ bitsOf l lo
 bits-join h l hi lo small =
     rw (bits-split h l (hi * 2 ^ l + lo), high hi l small, ← low-bits l (hi * 2 ^ l + lo), low hi l small) refl
+
+-- the second of which may be larger, for only its lowest bits count
+pub bits-behind : (h l hi lo : ℕ) → bitsOf (h + l) (hi * 2 ^ l + lo % 2 ^ l) ≡ bitsOf h hi ++ bitsOf l lo
+bits-behind h l hi lo = rw (bits-join h l hi (lo % 2 ^ l) (mod-lt lo (pow-pos l)), low-bits l lo) refl
 
 -- h bits, then t bits, then the lowest l
 three-parts : (h t l v : ℕ) → bitsOf (h + t + l) v ≡ bitsOf h (v / 2 ^ l / 2 ^ t) ++ (bitsOf t (v / 2 ^ l) ++ bitsOf l v)
@@ -64,10 +68,10 @@ replaced t l v x = (v / 2 ^ l / 2 ^ t * 2 ^ t + x % 2 ^ t) * 2 ^ l + v % 2 ^ l
 field-replaced : (h t l v x : ℕ) → bitsOf (h + t + l) (replaced t l v x) ≡ pour h (bitsOf t x) (bitsOf (h + t + l) v)
 field-replaced h t l v x =
     let top = v / 2 ^ l / 2 ^ t in
-    let upper = bits-join h t top (x % 2 ^ t) (mod-lt x (pow-pos t)) in
+    let upper = bits-behind h t top x in
     let same = length-bitsOf t x ∙ sym (length-bitsOf t (v / 2 ^ l)) in
     let middle = pour-middle h (bitsOf h top) (bitsOf t x) (bitsOf t (v / 2 ^ l)) (bitsOf l v) (length-bitsOf h _) same in
-    rw (bits-join (h + t) l (top * 2 ^ t + x % 2 ^ t) (v % 2 ^ l) (mod-lt v (pow-pos l)), upper, low-bits t x, low-bits l v, append-assoc)
+    rw (bits-behind (h + t) l (top * 2 ^ t + x % 2 ^ t) v, upper, append-assoc)
     (rw (three-parts h t l v) (sym middle))
 
 replaced-below : (h t l v x : ℕ) → v < 2 ^ (h + t + l) → replaced t l v x < 2 ^ (h + t + l)

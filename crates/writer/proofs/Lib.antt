@@ -1,5 +1,6 @@
 pub mod Writes
 pub mod TextBits
+pub mod Characters
 pub mod Complements
 pub mod LineBits
 pub mod Plates

@@ -1,14 +1,12 @@
 -- The bits of texts, taken apart at their front.
-use Prim.Native.Nat.{ℕ, suc, _+_, _-_, _*_, _%_, _≤_, _<_}
+use Prim.Native.Nat.{ℕ, suc, _+_, _-_, _≤_, _<_}
 use native.Mathlib.Omega.{arith}
-use native.Mathlib.Nat.{mod-lt}
 use native.Mathlib.Numerals.{add-one}
-use mathlib.Core.Path.{_≡_, refl, sym, ap, _∙_}
-use mathlib.Core.List.{List, [], _∷_, _++_, append-assoc}
+use mathlib.Core.Path.{_≡_, refl}
+use mathlib.Core.List.{List, [], _∷_, _++_}
 use lib.ListN.{length, take, drop, getD, drop-of-length-le, length-take, length-map}
 use lib.Seq.{drop-cons}
 use Rattle.bits.specs.Bits.{bitsOf}
-use Rattle.bits.proofs.Fields.{low-bits, bits-join}
 use Rattle.text.specs.Parts.{untilByte, partsFrom, comma}
 use Rattle.text.proofs.Places.{parts-next, parts-none}
 use Rattle.text.specs.Text.{Text}
@@ -26,44 +24,6 @@ module _ (t : Text) (i : ℕ) where
   pub spelled-end : length t ≤ i → spelledBits (drop i t) ≡ bitsOf 7 ETX
   unfolding spelledBits
   spelled-end h = rw (drop-of-length-le t h)
-
--- characters of 7 bits, as one number
-pub two-joined : (a b : ℕ) → bitsOf 14 (a * 128 + b % 128) ≡ bitsOf 7 a ++ bitsOf 7 b
-two-joined a b = bits-join 7 7 a (b % 128) (mod-lt b (omega arith)) ∙ ap (λ l. bitsOf 7 a ++ l) (low-bits 7 b)
-
-pub three-joined : (a b c : ℕ) → bitsOf 21 ((a * 128 + b % 128) * 128 + c % 128) ≡ bitsOf 7 a ++ bitsOf 7 b ++ bitsOf 7 c
-three-joined a b c =
-    bits-join 14 7 (a * 128 + b % 128) (c % 128) (mod-lt c (omega arith))
-    ∙ ap (λ l. l ++ bitsOf 7 (c % 128)) (two-joined a b)
-    ∙ ap (λ l. bitsOf 7 a ++ bitsOf 7 b ++ l) (low-bits 7 c)
-
--- three characters from the place i on
-module _ (t : Text) (i : ℕ) where
-  spelled-three : i + 2 < length t → spelledBits (drop i t)
-      ≡ bitsOf 7 (getD t i 0) ++ bitsOf 7 (getD t (i + 1) 0) ++ bitsOf 7 (getD t (i + 2) 0) ++ spelledBits (drop (i + 3) t)
-  spelled-three h =
-      let one : i + 1 + 1 ≡ i + 2 = omega arith in
-      let two : i + 2 + 1 ≡ i + 3 = omega arith in
-      let e1 = rw one at (spelled-next t (i + 1) (omega arith)) in
-      let e2 = rw two at (spelled-next t (i + 2) (omega arith)) in
-      rw (spelled-next t i (omega arith), e1, e2) (simp append-assoc)
-
-  -- those as a number
-  pub three-next : (r : ℕ) → bitsOf 21 r ≡ bitsOf 7 (getD t i 0) ++ bitsOf 7 (getD t (i + 1) 0) ++ bitsOf 7 (getD t (i + 2) 0)
-      → i + 2 < length t → spelledBits (drop i t) ≡ bitsOf 21 r ++ spelledBits (drop (i + 3) t)
-  three-next r e h = spelled-three h ∙ ap (λ l. l ++ spelledBits (drop (i + 3) t)) (sym e)
-
-  -- the last ones, with ETX
-  pub spelled-one : length t ≡ i + 1 → spelledBits (drop i t) ≡ bitsOf 14 (getD t i 0 * 128 + 3)
-  spelled-one h =
-      rw (spelled-next t i (omega arith), spelled-end t (i + 1) (omega arith)) (sym (two-joined (getD t i 0) ETX))
-
-  pub spelled-two : length t ≡ i + 2 → spelledBits (drop i t) ≡ bitsOf 21 ((getD t i 0 * 128 + getD t (i + 1) 0 % 128) * 128 + 3)
-  spelled-two h =
-      let one : i + 1 + 1 ≡ i + 2 = omega arith in
-      let e1 = rw one at (spelled-next t (i + 1) (omega arith)) in
-      rw (spelled-next t i (omega arith), e1, spelled-end t (i + 2) (omega arith), ← append-assoc)
-      (sym (three-joined (getD t i 0) (getD t (i + 1) 0) ETX))
 
 -- the fields from the place a on, the first of which ends at e
 module _ (c : Phrases) (line : List ℕ) (a : ℕ) where

@@ -2,7 +2,7 @@
 ghost use mathlib.Core.Path.{_≡_};
 ghost use mathlib.Core.List.{_++_};
 ghost use Prim.Native.Nat.{_+_, _≤_, _<_};
-ghost use lib.ListN.{length, drop, getD};
+ghost use lib.ListN.{length, drop};
 ghost use Rattle.output.specs.Pour.{poured};
 ghost use Rattle.bits.specs.Bits.{bitsOf, bytesBits};
 ghost use Rattle.text.specs.Parts.{split, comma};
@@ -11,27 +11,32 @@ ghost use Rattle.phrases.specs.Index.{Listed};
 ghost use Rattle.plate.specs.Writing.{spelledBits, ownBit, textBits, textsBits};
 use phrases::Found;
 
-// Three characters from the place i on, 7 bits each, as one number.
-fn three(text: &[u8], i: usize) -> usize
-    requires { ⌜ i + 2 < length (now text) ⌝ }
-    ensures { λ r. ⌜ bitsOf 21 r ≡ bitsOf 7 (getD (now (text .entry)) i 0) ++ bitsOf 7 (getD (now (text .entry)) (i + 1) 0) ++ bitsOf 7 (getD (now (text .entry)) (i + 2) 0) ⌝ }
+// Eight characters from the place i on, 7 bits each, as one number.
+fn eight(text: &[u8], i: usize) -> usize
+    requires { ⌜ i + 7 < length (now text) ⌝ }
+    ensures { λ r. ⌜ spelledBits (drop i (now (text .entry))) ≡ bitsOf 56 r ++ spelledBits (drop (i + 8) (now (text .entry))) ⌝ }
 {
-    (text[i] as usize * 128 + text[i + 1] as usize % 128) * 128 + text[i + 2] as usize % 128
+    let a = (text[i] as usize * 128 + text[i + 1] as usize % 128) * 128
+        + text[i + 2] as usize % 128;
+    let b = (a * 128 + text[i + 3] as usize % 128) * 128 + text[i + 4] as usize % 128;
+    let c = (b * 128 + text[i + 5] as usize % 128) * 128 + text[i + 6] as usize % 128;
+    c * 128 + text[i + 7] as usize % 128
 }
 
-// The last characters, at most two from the place i on, and ETX.
-fn put_last(out: &mut [u8], at: usize, text: &[u8], i: usize) -> usize
-    requires { ⌜ (i ≤ length (now text)) × (length (now text) ≤ i + 2) ⌝ }
-    ensures { λ r. ⌜ (r, bytesBits (now (out .exit))) ≡ poured at (spelledBits (drop i (now (text .entry)))) (bytesBits (now (out .entry))) ⌝ }
+// The last characters, at most seven from a place on, and ETX, as one number.
+fn put_rest(out: &mut [u8], at: usize, text: &[u8], from: usize) -> usize
+    requires { ⌜ (from ≤ length (now text)) × (length (now text) ≤ from + 7) ⌝ }
+    ensures { λ r. ⌜ (r, bytesBits (now (out .exit))) ≡ poured at (spelledBits (drop from (now (text .entry)))) (bytesBits (now (out .entry))) ⌝ }
 {
-    if text.len() == i {
-        return bits::put_bits(out, at, 7, 3);
+    let mut value = 0;
+    let mut width = 0;
+    let mut i = from;
+    while i < text.len() {
+        value = value * 128 + text[i] as usize % 128;
+        width += 7;
+        i += 1;
     }
-    if text.len() == i + 1 {
-        return bits::put_bits(out, at, 14, text[i] as usize * 128 + 3);
-    }
-    let last = text[i + 1] as usize % 128;
-    bits::put_bits(out, at, 21, (text[i] as usize * 128 + last) * 128 + 3)
+    bits::put_bits(out, at, width + 7, value * 128 + 3)
 }
 
 // The characters of a text in 7 bits each, then ETX.
@@ -41,11 +46,11 @@ pub fn put_spelled(out: &mut [u8], at: usize, text: &[u8]) -> usize
 {
     let mut end = at;
     let mut i = 0;
-    while i + 2 < text.len() {
-        end = bits::put_bits(out, end, 21, three(text, i));
-        i += 3;
+    while i + 7 < text.len() {
+        end = bits::put_bits(out, end, 56, eight(text, i));
+        i += 8;
     }
-    put_last(out, end, text, i)
+    put_rest(out, end, text, i)
 }
 
 // How many own phrases there are.

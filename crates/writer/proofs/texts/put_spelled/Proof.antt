@@ -1,13 +1,10 @@
 -- `put_spelled` meets its contract: the characters from the place i on are left to write.
-use borrow.Author.Needs.{needs}
 use Prim.Native.Nat.{_≤_, _-_}
-use native.Mathlib.Omega.{arith}
 use mathlib.Core.Path.{refl}
 use lib.ListN.{length, drop}
 use borrow.Author.Needs.{needs}
 use Rattle.plate.specs.Writing.{spelledBits}
 use Rattle.writer.proofs.Writes.{Left, begun, turned}
-use Rattle.writer.proofs.TextBits.{three-next}
 use Rattle.writer.proofs.texts.put_spelled.Statement.{statement}
 use Rattle.writer.proofs.texts.put_spelled.Tie as tie
 
@@ -23,8 +20,8 @@ loop-holds c = (begun _ _ refl (search needs), search needs)
 add-loop : tie.Need-add-loop Inv-loop μ-loop
 add-loop c = search needs
 
-three-requires : tie.Need-three-requires Inv-loop μ-loop
-three-requires c κs = search needs
+eight-requires : tie.Need-eight-requires Inv-loop μ-loop
+eight-requires c κs = search needs
 
 put-bits-requires : tie.Need-put-bits-requires Inv-loop μ-loop
 put-bits-requires c κs = search needs
@@ -36,16 +33,16 @@ loop-less : tie.Need-loop-less Inv-loop μ-loop
 loop-less c = search needs
 
 loop-again : tie.Need-loop-again Inv-loop μ-loop
-loop-again c = (turned (c .before .before .before .before .before .before .loop .inv .0) _ _ (three-next _ _ _ (c .before .before .before .three .ensures) (c .before .before .before .before .before .loop-test .taken)) (c .before .before .put-bits .ensures) (c .before .before .before .before .before .before .before .before .before .pre), search needs)
+loop-again c = (turned (c .before .before .before .before .before .before .loop .inv .0) _ _ (c .before .before .before .eight .ensures) (c .before .before .put-bits .ensures) (c .before .before .before .before .before .before .before .before .before .pre), search needs)
 
-put-last-requires : tie.Need-put-last-requires Inv-loop μ-loop
-put-last-requires c κs = search needs
+put-rest-requires : tie.Need-put-rest-requires Inv-loop μ-loop
+put-rest-requires c κs = search needs
 
 same-length : tie.Need-same-length Inv-loop μ-loop
 same-length c = search needs
 
 returns : tie.Need-returns Inv-loop μ-loop
-returns c = c .before .before .before .before .before .loop .inv .0 .makes _ (c .before .before .put-last .ensures)
+returns c = c .before .before .before .before .before .loop .inv .0 .makes _ (c .before .before .put-rest .ensures)
 
 pub put-spelled-spec : {M : Type 1} → statement M
 put-spelled-spec =
@@ -55,11 +52,11 @@ put-spelled-spec =
     μ-loop
     loop-holds
     add-loop
-    three-requires
+    eight-requires
     put-bits-requires
     add-i
     loop-less
     loop-again
-    put-last-requires
+    put-rest-requires
     same-length
     returns)

@@ -22,7 +22,7 @@ pub record Wrote (r : Result (List ℕ)) (buffer : List ℕ) (n : ℕ) (after : 
   pub size : n ≡ length result
   pub laid : after ≡ result ++ drop (length result) buffer
 
-refusal-no-length : {number place n : ℕ} → refusal number place ≡ wrote n → ⊥
+pub refusal-no-length : {number place n : ℕ} → refusal number place ≡ wrote n → ⊥
 refusal-no-length e = let z : _≡_ {A = ℕ} 0 1 = cc in omega arith
 
 pub written-wrote : (r : Result (List ℕ)) (buffer after : List ℕ) (n : ℕ) → written r buffer ≡ (wrote n, after) → Wrote r buffer n after
@@ -39,7 +39,7 @@ written-wrote (made bs) buffer after n e = go (leb (length bs) (length buffer)) 
         record { result = bs; makes = refl; size = cc; laid = cc }
     go false e = absurd (refusal-no-length (ap (λ (p : Answer × List ℕ). p .0) e))
 
-front : (result rest after : List ℕ) (n : ℕ) → n ≡ length result → after ≡ result ++ rest
+pub front : (result rest after : List ℕ) (n : ℕ) → n ≡ length result → after ≡ result ++ rest
     → (take n after ≡ result) × (n ≤ length after)
 front result rest after n e f = (rw f (take-at result rest n (sym e)), rw f (omega (arith, length-append result rest)))
 

@@ -16,7 +16,7 @@ use Rattle.causes.specs.declared.Refusal.{Refusal}
 use Rattle.causes.specs.declared.Written.{Written}
 use Rattle.causes.specs.declared.Written.the-variants.{Done, Refused}
 use Rattle.causes.proofs.Results.{made-from}
-use Rattle.causes.proofs.Lent.{written, written-wrote, written-fits}
+use Rattle.causes.proofs.Lent.{written, refusal-no-length, front, written-wrote, written-fits}
 use Rattle.text.specs.Parts.{split, LF}
 use Rattle.text.specs.Text.{Text}
 use Rattle.phrases.specs.Book.{phrasesFrom, bookPhrases}
@@ -119,17 +119,12 @@ translation-made guide plate e =
 
 -- ---- the calls
 
-refusal-no-length : {number place n : ℕ} → refusal number place ≡ wrote n → ⊥
-refusal-no-length e = let z : _≡_ {A = ℕ} 0 1 = cc in omega arith
-
 -- n bytes can be lent from the front
 abbrev pub Front : ℕ → List ℕ → Type 0
 Front n xs = (n ≤ length xs) × (n ≡ length (take n xs))
 
-front : (result rest after : List ℕ) (n : ℕ) → n ≡ length result → after ≡ result ++ rest → (take n after ≡ result) × Front n after
-front result rest after n e f =
-    let taken : take n after ≡ result = rw f (take-at result rest n (sym e)) in
-    (taken, (rw f (omega (arith, length-append result rest)), rw taken e))
+taken-front : (result rest after : List ℕ) (n : ℕ) → n ≡ length result → after ≡ result ++ rest → (take n after ≡ result) × Front n after
+taken-front result rest after n e f = let g = front result rest after n e f in (g .0, (g .1, rw (g .0) e))
 
 -- translate in a buffer of 2,953 bytes or more, which is never too short
 module _ (guide buffer after : List ℕ) {x : Written} (e : (writtenAnswer x, after) ≡ translateCall guide [] buffer) where
@@ -155,7 +150,7 @@ module _ (guide buffer after : List ℕ) {x : Written} (e : (writtenAnswer x, af
   unfolding translateCall
   taken {n} f =
       let w = written-wrote (translation [] guide) buffer after n (sym (rw f at e)) in
-      let l = front (w .result) _ after n (w .size) (w .laid) in
+      let l = taken-front (w .result) _ after n (w .size) (w .laid) in
       (rw (l .0) (translation-made guide (w .result) (w .makes)), l .1)
 
 -- read_plate of an accepted guide's plate in a buffer of 327,680 bytes or more
@@ -177,5 +172,5 @@ module _ (guide plate buffer after : List ℕ) (x : Written) (a : Accepts guide 
   listed {n} f =
       let k : wrote n ≡ wrote (length (a .listing)) = rw f at answer-is in
       let size : n ≡ length (a .listing) = cc in
-      let l = front (a .listing) _ after n size (ap (λ (p : Answer × List ℕ). p .1) read-answer) in
+      let l = taken-front (a .listing) _ after n size (ap (λ (p : Answer × List ℕ). p .1) read-answer) in
       (rw (l .0) (sym (a .text)), l .1)

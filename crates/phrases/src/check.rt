@@ -43,7 +43,7 @@ pub fn check_book(book: &[u8], index: &mut [u32]) -> Book
     let mut n = 0;
     let mut a = 0;
     while a < book.len() {
-        let e = text::find(book, a, b'\n');
+        let e = text::find_far(book, a, b'\n');
         if e == book.len() {
             return Book::Bad(n + 1);
         }

@@ -5,6 +5,7 @@ pub mod Decimals
 pub mod Constants
 pub mod Bytes
 pub mod Places
+pub mod Searches
 pub mod Flags
 pub mod Reading
 pub mod Answers

@@ -1,20 +1,22 @@
 // Text: parts of it, which are lines or fields; texts; and numbers in decimal. They are read from lent bytes and written into a lent buffer.
-// Every function takes any content of any length, and its contract says its whole answer by a definition of specs/. `find` alone has a
-// condition: the place where it starts is in the text or at its end.
+// Every function takes any content of any length, and its contract says its whole answer by a definition of specs/. `find` and
+// `find_far` alone have a condition: the place where they start is in the text or at its end.
 // `part` returns a part of the text, never a copy. A reader of a number takes such a part and answers an enum.
 // A writer stores as far as the buffer goes, and answers where its writing ends (crate output).
 mod number;
 mod parts;
+mod search;
 mod texts;
 mod write;
 
 pub use number::read_constant;
 pub use number::read_natural;
 pub use parts::count_parts;
-pub use parts::find;
 pub use parts::part;
 pub use parts::part_start;
 pub use parts::same;
+pub use search::find;
+pub use search::find_far;
 pub use texts::are_allowed;
 pub use texts::are_texts;
 pub use texts::is_text;

@@ -1,25 +1,9 @@
 // Parts of a text: lines parted by LF, fields parted by commas.
 ghost use mathlib.Core.Path.{_≡_};
 ghost use mathlib.Core.List.{[]};
-ghost use Prim.Native.Nat.{_+_, _≤_};
 ghost use lib.ListN.{length, drop, getD};
-ghost use Rattle.text.specs.Parts.{untilByte, same, split, partsFrom};
-
-// The place of the first byte x from a on, or the text's end.
-pub fn find(s: &[u8], a: usize, x: u8) -> usize
-    requires { ⌜ a ≤ length (now s) ⌝ }
-    ensures { λ r. ⌜ r ≡ a + untilByte x (drop a (now (s .entry))) ⌝ }
-    ensures { λ r. ⌜ r ≤ length (now (s .entry)) ⌝ }
-{
-    let mut i = a;
-    while i < s.len() {
-        if s[i] == x {
-            return i;
-        }
-        i += 1;
-    }
-    i
-}
+ghost use Rattle.text.specs.Parts.{same, split, partsFrom};
+use crate::search::find;
 
 // Whether two slices hold the same bytes.
 pub fn same(a: &[u8], b: &[u8]) -> bool

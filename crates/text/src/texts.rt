@@ -3,8 +3,8 @@ ghost use mathlib.Core.Path.{_≡_};
 ghost use lib.ListN.{drop};
 ghost use Rattle.text.specs.Parts.{all, split, comma};
 ghost use Rattle.text.specs.Text.{allowed, textByte, isText};
-use crate::parts::find;
 use crate::parts::part_start;
+use crate::search::find;
 
 // Whether a byte is allowed.
 fn is_allowed(b: u8) -> bool

@@ -55,8 +55,8 @@ loop-holds c =
     let e = c .before .before .clear .ensures in
     (good-none _, entered-none _ _ _ (cleared _ _ e), search needs, search needs, search needs, omega (arith, ap length e, pour-length 0 (indexOf []) (c .before .before .before .before .before .before .args .index .now), c .before .before .before .before .before .before .pre))
 
-find-requires : tie.Need-find-requires Inv-loop μ-loop
-find-requires c κs = search needs
+find-far-requires : tie.Need-find-far-requires Inv-loop μ-loop
+find-far-requires c κs = search needs
 
 add-t12 : tie.Need-add-t12 Inv-loop μ-loop
 add-t12 c = search needs
@@ -67,8 +67,8 @@ same-length c = long (c .before .before .before)
 returns : tie.Need-returns Inv-loop μ-loop
 returns c =
     let l = c .before .before .before in
-    let bad = last-bad _ _ _ (l .loop .inv .0) _ (c .before .find .ensures .0) (c .before .before .loop-test .taken) (c .if1 .taken) in
-    let e = left l (good-texts-last _ _ _ (l .loop .inv .0) _ (c .before .find .ensures .0) (c .if1 .taken)) in
+    let bad = last-bad _ _ _ (l .loop .inv .0) _ (c .before .find-far .ensures .0) (c .before .before .loop-test .taken) (c .if1 .taken) in
+    let e = left l (good-texts-last _ _ _ (l .loop .inv .0) _ (c .before .find-far .ensures .0) (c .if1 .taken)) in
     ((λ i. (sym bad i, e i)), λ n e. absurd (not-holding _ n e))
 
 sub-key-of : tie.Need-sub-key-of Inv-loop μ-loop
@@ -122,13 +122,13 @@ loop-again c =
     let i = l .loop .inv in
     let f = c .before .before .before .before .before .before .before .before .before .before .before .before in
     let s = l .before .before .before .before .before .before .before in
-    let within : f .find .result < length (s .args .book .now) = omega (arith, f .find .ensures .1, c .before .before .before .before .before .before .before .before .before .before .before .if1 .left) in
+    let within : f .find-far .result < length (s .args .book .now) = omega (arith, f .find-far .ensures .1, c .before .before .before .before .before .before .before .before .before .before .before .if1 .left) in
     let e = sym (c .before .before .before .before .before .is-next .ensures) ∙ c .before .before .before .before .if2 .taken in
     let small = next-small _ _ e in
-    let texts = front-texts _ _ _ (f .find .ensures .0) within (i .0 .whole) in
+    let texts = front-texts _ _ _ (f .find-far .ensures .0) within (i .0 .whole) in
     let is = rw (c .before .before .before .before .before .before .before .before .before .key-of .ensures) at (c .before .before .enter .ensures) in
-    let entered = entered-more _ _ _ _ _ (i .1) (i .0 .count) (i .2) (i .5) (i .4) (f .find .result) _ (small .0) (search needs) within (next-new _ _ e) is texts in
-    (line-good _ _ _ (i .0) _ (f .find .ensures .0) within e, entered, omega (arith, small .1, i .0 .count), search needs, search needs, i .5)
+    let entered = entered-more _ _ _ _ _ (i .1) (i .0 .count) (i .2) (i .5) (i .4) (f .find-far .result) _ (small .0) (search needs) within (next-new _ _ e) is texts in
+    (line-good _ _ _ (i .0) _ (f .find-far .ensures .0) within e, entered, omega (arith, small .1, i .0 .count), search needs, search needs, i .5)
 
 add-t27 : tie.Need-add-t27 Inv-loop μ-loop
 add-t27 c = search needs
@@ -141,10 +141,10 @@ returns-2 c =
     let l = c .before .before .before .before .before .before .before .before .before .before in
     let f = c .before .before .before .before .before .before .before .before in
     let s = l .before .before .before .before .before .before .before in
-    let within : f .find .result < length (s .args .book .now) = search needs in
+    let within : f .find-far .result < length (s .args .book .now) = search needs in
     let e = sym (c .before .is-next .ensures) ∙ c .if2 .left in
-    let bad = line-bad _ _ _ (l .loop .inv .0) _ (f .find .ensures .0) within e in
-    let is = left l (good-texts-bad _ _ _ (l .loop .inv .0) _ (f .find .ensures .0) within e) in
+    let bad = line-bad _ _ _ (l .loop .inv .0) _ (f .find-far .ensures .0) within e in
+    let is = left l (good-texts-bad _ _ _ (l .loop .inv .0) _ (f .find-far .ensures .0) within e) in
     ((λ i. (sym bad i, is i)), λ n e. absurd (not-holding _ n e))
 
 same-length-3 : tie.Need-same-length-3 Inv-loop μ-loop
@@ -165,7 +165,7 @@ check-book-spec =
     μ-loop
     clear-requires
     loop-holds
-    find-requires
+    find-far-requires
     add-t12
     same-length
     returns

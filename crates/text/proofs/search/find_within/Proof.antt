@@ -1,12 +1,12 @@
--- `find` meets its contract: the first x from a on is the first from i on.
+-- `find_within` meets its contract: the first x from a on is the first from i on.
 use Prim.Native.Nat.{_+_, _≤_, _-_}
 use mathlib.Core.Path.{sym, _∙_, _≡_, refl}
 use lib.ListN.{length, drop}
 use borrow.Author.Needs.{needs}
 use Rattle.text.specs.Parts.{untilByte}
 use Rattle.text.proofs.Places.{until-here, until-later, until-none}
-use Rattle.text.proofs.parts.find.Statement.{statement}
-use Rattle.text.proofs.parts.find.Tie as tie
+use Rattle.text.proofs.search.find_within.Statement.{statement}
+use Rattle.text.proofs.search.find_within.Tie as tie
 
 abbrev Inv-loop : tie.InvT-loop
 Inv-loop s a x i₀ i = (a + untilByte x (drop a s) ≡ i + untilByte x (drop i s)) × (i ≤ length s)
@@ -37,8 +37,8 @@ loop-again c =
 returns-2 : tie.Need-returns-2 Inv-loop μ-loop
 returns-2 c = (until-none _ _ _ (c .loop-test .left) ∙ sym (c .before .loop .inv .0), search needs)
 
-pub find-spec : {M : Type 1} → statement M
-find-spec =
+pub find-within-spec : {M : Type 1} → statement M
+find-within-spec =
     tie.close
     (tie.spec
     Inv-loop

@@ -5,21 +5,22 @@ ghost use lib.ListN.{length, drop, getD};
 ghost use Rattle.text.specs.Parts.{same, split, partsFrom};
 use crate::search::find;
 
-// Whether two slices hold the same bytes.
+// Whether two slices hold the same bytes. The loop does not stop at a byte that differs, so that it can take many at a time.
 pub fn same(a: &[u8], b: &[u8]) -> bool
     ensures { λ r. ⌜ r ≡ same (now (a .entry)) (now (b .entry)) ⌝ }
 {
     if a.len() != b.len() {
         return false;
     }
+    let mut equal = true;
     let mut i = 0;
     while i < a.len() {
         if a[i] != b[i] {
-            return false;
+            equal = false;
         }
         i += 1;
     }
-    true
+    equal
 }
 
 // How many parts there are: one more than bytes x.

@@ -14,6 +14,5 @@ pub mod OwnFirst
 pub mod LinesPassed
 pub mod Answers
 pub mod FieldBytes
-pub mod FieldCommas
 pub mod CleanLines
 pub mod CleanTexts

@@ -49,17 +49,10 @@ pub fn count_fields(s: &[u8], a: usize) -> usize
     ensures { λ r. ⌜ r ≡ length (partsFrom comma a (now (s .entry))) ⌝ }
 {
     if s.len() < a {
-        return 0;
+        0
+    } else {
+        text::count_parts(&s[a..], b',')
     }
-    let mut n = 1;
-    let mut i = a;
-    while i < s.len() {
-        if s[i] == b',' {
-            n += 1;
-        }
-        i += 1;
-    }
-    n
 }
 
 // One text, of a line with this head: `phrase,TEXT`, `print,TEXT` and `printex,TEXT`. A text has no comma, so it is the only field.

@@ -6,6 +6,7 @@ pub mod Constants
 pub mod Bytes
 pub mod Places
 pub mod Searches
+pub mod Counts
 pub mod Flags
 pub mod Reading
 pub mod Answers

@@ -60,9 +60,6 @@ module _ (x : ℕ) where
     unfolding partsFrom
     parts-none h = rw (lt-leb a (length s) h)
 
-    pub count-last : length s < a → (n : ℕ) → n + length (partsFrom x a s) ≡ n
-    count-last h n = rw (parts-none h) (omega arith)
-
     pub pass-last : length s < a → (n : ℕ) → drop n (partsFrom x a s) ≡ partsFrom x a s
     pass-last h n = rw (parts-none h) (drop-nil n)
 
@@ -78,10 +75,7 @@ module _ (x : ℕ) where
         let n : a + suc (e - a) ≡ e + 1 = omega arith in
         parts-some s a h ∙ split-on (drop a s) ∙ rw (u, parts-behind (suc (e - a)) a s h, n)
 
-    -- one part more is counted, and one less is to be passed
-    pub count-next : (n : ℕ) → n + length (partsFrom x a s) ≡ n + 1 + length (partsFrom x (e + 1) s)
-    count-next n = rw parts-next (omega arith)
-
+    -- one part less is to be passed
     pub pass-next : (n : ℕ) → (n ≡ 0 → ⊥) → drop n (partsFrom x a s) ≡ drop (n - 1) (partsFrom x (e + 1) s)
     pass-next zero l = absurd (l refl)
     pass-next (suc n) l = rw (parts-next, sub-one)

@@ -1,6 +1,7 @@
 // Parts of a text: lines parted by LF, fields parted by commas.
 ghost use mathlib.Core.Path.{_≡_};
 ghost use mathlib.Core.List.{[]};
+ghost use Prim.Native.Nat.{_+_, _≤_};
 ghost use lib.ListN.{length, drop, getD};
 ghost use Rattle.text.specs.Parts.{same, split, partsFrom};
 use crate::search::find;
@@ -23,15 +24,38 @@ pub fn same(a: &[u8], b: &[u8]) -> bool
     equal
 }
 
+// How many of the 16 bytes from a on are x. A count of 8 bits lets the loop take all 16 at a time.
+fn count_in(s: &[u8], a: usize, x: u8) -> u8
+    requires { ⌜ a + 16 ≤ length (now s) ⌝ }
+    ensures { λ r. ⌜ r + length (split x (drop (a + 16) (now (s .entry)))) ≡ length (split x (drop a (now (s .entry)))) ⌝ }
+    ensures { λ r. ⌜ r ≤ 16 ⌝ }
+{
+    let mut n = 0;
+    let mut i = 0;
+    while i < 16 {
+        if s[a + i] == x {
+            n += 1;
+        }
+        i += 1;
+    }
+    n
+}
+
 // How many parts there are: one more than bytes x.
 pub fn count_parts(s: &[u8], x: u8) -> usize
     ensures { λ r. ⌜ r ≡ length (split x (now (s .entry))) ⌝ }
 {
-    let mut n = 0;
-    let mut a = 0;
-    while a <= s.len() {
-        a = find(s, a, x) + 1;
-        n += 1;
+    let mut n = 1;
+    let mut i = 0;
+    while 16 <= s.len() - i {
+        n += count_in(s, i, x) as usize;
+        i += 16;
+    }
+    while i < s.len() {
+        if s[i] == x {
+            n += 1;
+        }
+        i += 1;
     }
     n
 }

@@ -5,12 +5,14 @@ use mathlib.Core.List.{List, _∷_}
 use mathlib.Core.Bool.{Bool, true, false, cond}
 use mathlib.Core.Option.{some}
 use native.Mathlib.Omega.{arith}
-use lib.ListN.{take, drop}
+use lib.ListN.{length, take, drop}
+use lib.Dec.{eqb}
+use borrow.Author.Tests.{eqb-true, eqb-false}
 use Rattle.text.specs.Quoted.{bytes}
 use Rattle.text.specs.Parts.{split, comma, partsFrom, untilByte, same, all}
 use Rattle.text.specs.Text.{allowed}
 use Rattle.text.proofs.Tests.{same-equal}
-use Rattle.text.proofs.Places.{parts-whole, parts-next}
+use Rattle.text.proofs.Places.{parts-whole, parts-next, same-short}
 use Rattle.transcript.specs.declared.Op.the-variants.{Eq, Ne, Lt, Le, Gt, Ge}
 use Rattle.lines.specs.declared.Form.{Form}
 use Rattle.lines.specs.declared.words.Kind.{Kind}
@@ -77,6 +79,35 @@ pub kind-words : (kindOf (bytes "phrase") ≡ Phrase)
     × (kindOf (bytes "goto") ≡ Goto)
 unfolding kindOf same
 kind-words = (refl, refl, refl, refl, refl, refl, refl, refl, refl)
+
+-- a word that differs from each kind's word of its length is of no kind
+module _ (w : List ℕ) where
+  differs : (v : List ℕ) → (length w ≡ length v → same w v ≡ false) → same w v ≡ false
+  differs v h = go (eqb (length w) (length v)) refl
+    where
+      go : (b : Bool) → eqb (length w) (length v) ≡ b → same w v ≡ false
+      go true e = h (eqb-true (length w) (length v) e)
+      go false e = same-short w v (eqb-false (length w) (length v) e)
+
+  pub no-kind : (length w ≡ 2 → (same w (bytes "if") ≡ false) × (same w (bytes "fi") ≡ false))
+      → (length w ≡ 4 → (same w (bytes "else") ≡ false) × (same w (bytes "goto") ≡ false))
+      → (length w ≡ 5 → (same w (bytes "input") ≡ false) × (same w (bytes "print") ≡ false))
+      → (length w ≡ 6 → (same w (bytes "phrase") ≡ false) × (same w (bytes "inputs") ≡ false))
+      → (length w ≡ 7 → same w (bytes "printex") ≡ false)
+      → kindOf w ≡ Unknown
+  unfolding kindOf
+  no-kind two four five six seven =
+      simp (
+        differs (bytes "if") (λ e. two e .0),
+        differs (bytes "fi") (λ e. two e .1),
+        differs (bytes "else") (λ e. four e .0),
+        differs (bytes "goto") (λ e. four e .1),
+        differs (bytes "input") (λ e. five e .0),
+        differs (bytes "print") (λ e. five e .1),
+        differs (bytes "phrase") (λ e. six e .0),
+        differs (bytes "inputs") (λ e. six e .1),
+        differs (bytes "printex") seven,
+      )
 
 -- each word names its operator
 pub operator-words : (operator (bytes "eq") ≡ some Eq)

@@ -5,9 +5,9 @@ use native.Mathlib.Nat.{zero-add, suc-add}
 use native.Mathlib.Numerals.{add-one, sub-one}
 use mathlib.Core.Path.{_≡_, refl, sym, ap, _∙_}
 use mathlib.Core.List.{List, [], _∷_}
-use mathlib.Core.Bool.{Bool, true, false, cond, and-false}
+use mathlib.Core.Bool.{Bool, true, false, cond, _&&_, and-false, and-assoc}
 use lib.ListN.{length, take, drop, getD, drop-of-length-le}
-use lib.Seq.{drop-cons, drop-nil, getD-drop}
+use lib.Seq.{drop-cons, drop-nil, drop-drop, getD-drop}
 use lib.Dec.{eqb, leb, leb·suc-suc}
 use borrow.Author.Tests.{eq-eqb, ne-eqb, le-leb, lt-leb}
 use Rattle.text.specs.Parts.{untilByte, split, onFirst, partsFrom, same, all}
@@ -120,6 +120,21 @@ module _ {A : Type 0} (p : A → Bool) (d : A) (s : List A) (i : ℕ) where
   pub all-on : i < length s → p (getD s i d) ≡ true → all p (drop i s) ≡ all p (drop (i + 1) s)
   unfolding all
   all-on h e = rw (drop-cons s i d h, add-one, e)
+
+module _ {A : Type 0} (p : A → Bool) where
+  -- a test of the first n, and of those behind them
+  all-cut : (n : ℕ) (s : List A) → all p s ≡ (all p (take n s) && all p (drop n s))
+  unfolding all
+  all-cut zero s = refl
+  all-cut (suc n) [] = refl
+  all-cut (suc n) (a ∷ s) = ap (λ b. p a && b) (all-cut n s) ∙ sym (and-assoc (p a) (all p (take n s)) (all p (drop n s)))
+
+  module _ (n : ℕ) (s : List A) (i : ℕ) where
+    pub all-passed : all p (take n (drop i s)) ≡ true → all p (drop i s) ≡ all p (drop (i + n) s)
+    all-passed e = all-cut n (drop i s) ∙ rw (e, drop-drop)
+
+    pub all-failed : all p (take n (drop i s)) ≡ false → all p (drop i s) ≡ false
+    all-failed e = all-cut n (drop i s) ∙ rw e
 
 -- ---- two texts from the place i on
 

@@ -44,8 +44,8 @@ fn is_text_byte(b: u8) -> bool
     is_allowed(b)
 }
 
-// Whether every byte is one of a text.
-fn are_text_bytes(s: &[u8]) -> bool
+// Whether every byte of a part is one of a text. The loop does not stop at a byte that is not, so that it can take many at a time.
+fn is_text_part(s: &[u8]) -> bool
     ensures { λ r. ⌜ r ≡ all textByte (now (s .entry)) ⌝ }
 {
     let mut good = true;
@@ -57,6 +57,22 @@ fn are_text_bytes(s: &[u8]) -> bool
         i += 1;
     }
     good
+}
+
+// Whether every byte is one of a text: 16 at a time, and then the last ones.
+fn are_text_bytes(s: &[u8]) -> bool
+    ensures { λ r. ⌜ r ≡ all textByte (now (s .entry)) ⌝ }
+{
+    let mut a = 0;
+    while 16 <= s.len() - a {
+        let e = a + 16;
+        if is_text_part(&s[a..e]) {
+            a = e;
+        } else {
+            return false;
+        }
+    }
+    is_text_part(&s[a..])
 }
 
 // Whether the bytes are a text: 1 to 64 allowed bytes with no comma.

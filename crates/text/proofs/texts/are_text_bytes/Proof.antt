@@ -1,52 +1,78 @@
--- `are_text_bytes` meets its contract: every byte is one of a text where those from i on are and the flag is true.
-use Prim.Native.Nat.{_≤_, _-_}
-use mathlib.Core.Path.{sym, _∙_}
-use mathlib.Core.Logic.{⊎-elim}
-use mathlib.Core.Bool.{and-false}
-use lib.ListN.{length, drop}
+-- `are_text_bytes` meets its contract: every byte is one of a text where those from a on are.
+use Prim.Native.Nat.{_≤_, _+_, _-_}
+use native.Mathlib.Omega.{arith}
+use mathlib.Core.Path.{_≡_, sym, ap, _∙_}
+use lib.ListN.{length, take, drop, length-drop}
+use lib.Seq.{take-all}
 use borrow.Author.Needs.{needs}
-use borrow.Author.Tests.{not-true, not-false}
 use Rattle.text.specs.Parts.{all}
 use Rattle.text.specs.Text.{textByte}
-use Rattle.text.proofs.Places.{all-none, all-not, all-on}
-use Rattle.text.proofs.Flags.{Flag, flag-start, flag-on, flag-off, flag-end}
+use Rattle.text.proofs.Places.{all-passed, all-failed}
 use Rattle.text.proofs.texts.are_text_bytes.Statement.{statement}
 use Rattle.text.proofs.texts.are_text_bytes.Tie as tie
 
 abbrev Inv-loop : tie.InvT-loop
-Inv-loop s good₀ i₀ good i = Flag (all textByte s) (all textByte (drop i s)) good × (i ≤ length s)
+Inv-loop s a₀ a = (all textByte s ≡ all textByte (drop a s)) × (a ≤ length s)
 
 abbrev μ-loop : tie.MeasureT-loop
-μ-loop s good₀ i₀ good i = length s - i
+μ-loop s a₀ a = length s - a
 
 loop-holds : tie.Need-loop-holds Inv-loop μ-loop
-loop-holds c = (flag-start _, search needs)
+loop-holds c = search needs
 
-shared-slice-read-is-text-byte : tie.Need-shared-slice-read-is-text-byte Inv-loop μ-loop
-shared-slice-read-is-text-byte c = search needs
+sub-loop : tie.Need-sub-loop Inv-loop μ-loop
+sub-loop c = search needs
 
-is-text-byte-requires : tie.Need-is-text-byte-requires Inv-loop μ-loop
-is-text-byte-requires c κs = search needs
+add-e : tie.Need-add-e Inv-loop μ-loop
+add-e c = search needs
 
-add-i : tie.Need-add-i Inv-loop μ-loop
-add-i c = search needs
+sub-is-text-part : tie.Need-sub-is-text-part Inv-loop μ-loop
+sub-is-text-part c = search needs
+
+part-is-text-part-start : tie.Need-part-is-text-part-start Inv-loop μ-loop
+part-is-text-part-start c = search needs
+
+part-is-text-part-end : tie.Need-part-is-text-part-end Inv-loop μ-loop
+part-is-text-part-end c = search needs
+
+is-text-part-requires : tie.Need-is-text-part-requires Inv-loop μ-loop
+is-text-part-requires c κs = search needs
 
 loop-less : tie.Need-loop-less Inv-loop μ-loop
 loop-less c = search needs
 
 loop-again : tie.Need-loop-again Inv-loop μ-loop
 loop-again c =
-    let b = c .before .before .before in
-    let e = sym (c .before .is-text-byte .ensures) in (
-      ⊎-elim
-          (λ w. rw (w .1, and-false) (flag-off _ _ _ (b .before .loop .inv .0) (all-not textByte 0 _ _ (b .loop-test .taken) (e ∙ not-true _ (w .0 .taken)))))
-          (λ w. rw (w .1) (flag-on _ _ _ (b .before .loop .inv .0) _ (all-on textByte 0 _ _ (b .loop-test .taken) (e ∙ not-false _ (w .0 .left)))))
-          (c .if1 .came),
-      search needs,
-    )
+    let l = c .before .before .before .before .loop in
+    let n : l .a + 16 - l .a ≡ 16 = omega arith in
+    let good = rw n at (sym (c .before .is-text-part .ensures) ∙ c .if1 .taken) in
+    (l .inv .0 ∙ all-passed textByte 16 (c .before .before .before .before .before .before .args .s .now) (l .a) good, search needs)
 
 returns : tie.Need-returns Inv-loop μ-loop
-returns c = flag-end _ _ _ (c .before .loop .inv .0) (all-none textByte 0 _ _ (c .loop-test .left))
+returns c =
+    let l = c .before .before .before .before .loop in
+    let n : l .a + 16 - l .a ≡ 16 = omega arith in
+    let bad = rw n at (sym (c .before .is-text-part .ensures) ∙ c .if1 .left) in
+    sym (l .inv .0 ∙ all-failed textByte 16 (c .before .before .before .before .before .before .args .s .now) (l .a) bad)
+
+sub-is-text-part-2 : tie.Need-sub-is-text-part-2 Inv-loop μ-loop
+sub-is-text-part-2 c = search needs
+
+part-is-text-part-start-2 : tie.Need-part-is-text-part-start-2 Inv-loop μ-loop
+part-is-text-part-start-2 c = search needs
+
+part-is-text-part-end-2 : tie.Need-part-is-text-part-end-2 Inv-loop μ-loop
+part-is-text-part-end-2 c = search needs
+
+is-text-part-requires-2 : tie.Need-is-text-part-requires-2 Inv-loop μ-loop
+is-text-part-requires-2 c κs = search needs
+
+returns-2 : tie.Need-returns-2 Inv-loop μ-loop
+returns-2 c =
+    let l = c .before .before .before .loop in
+    let s = c .before .before .before .before .before .args .s .now in
+    let rest : take (length s - l .a) (drop (l .a) s) ≡ drop (l .a) s = take-all (length s - l .a) (drop (l .a) s) (omega (arith, length-drop (l .a) s)) in
+    c .is-text-part2 .ensures ∙ ap (all textByte) rest ∙ sym (l .inv .0)
 
 pub are-text-bytes-spec : {M : Type 1} → statement M
 are-text-bytes-spec =
@@ -55,9 +81,17 @@ are-text-bytes-spec =
     Inv-loop
     μ-loop
     loop-holds
-    shared-slice-read-is-text-byte
-    is-text-byte-requires
-    add-i
+    sub-loop
+    add-e
+    sub-is-text-part
+    part-is-text-part-start
+    part-is-text-part-end
+    is-text-part-requires
     loop-less
     loop-again
-    returns)
+    returns
+    sub-is-text-part-2
+    part-is-text-part-start-2
+    part-is-text-part-end-2
+    is-text-part-requires-2
+    returns-2)

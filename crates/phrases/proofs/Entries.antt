@@ -92,12 +92,12 @@ module _ (index book : List ℕ) (i : Indexed index book) where
 
 -- ---- where text k stands
 
-until-within : (s : List ℕ) → untilByte LF s ≤ length s
+pub until-within : (x : ℕ) (s : List ℕ) → untilByte x s ≤ length s
 unfolding untilByte
-until-within [] = omega arith
-until-within (b ∷ s) = go (eqb b LF) (until-within s)
+until-within x [] = omega arith
+until-within x (b ∷ s) = go (eqb b x) (until-within x s)
   where
-    go : (v : Bool) → untilByte LF s ≤ length s → cond v 0 (suc (untilByte LF s)) ≤ suc (length s)
+    go : (v : Bool) → untilByte x s ≤ length s → cond v 0 (suc (untilByte x s)) ≤ suc (length s)
     go true h = omega arith
     go false h = omega arith
 
@@ -109,7 +109,7 @@ book-none book a e k h = go (leb (length book) a) refl
     go true l = book-end book a (leb-true _ _ l)
     go false l =
         let before : a < length book = leb-false _ _ l in
-        book-last book a e k (omega (arith, until-within (drop a book), length-drop a book))
+        book-last book a e k (omega (arith, until-within LF (drop a book), length-drop a book))
 
 pub record Placed (book : List ℕ) (t : Text) (a : ℕ) : Type 0 where
   pub inside : a + length t < length book

@@ -2,17 +2,19 @@
 use Prim.Native.Nat.{ℕ, suc, _+_, _-_, _≤_, _<_}
 use native.Mathlib.Omega.{arith}
 use native.Mathlib.Nat.{zero-add}
-use mathlib.Core.Path.{_≡_, refl, ap}
+use mathlib.Core.Path.{_≡_, refl, sym, ap, _∙_}
 use mathlib.Core.List.{List, [], _∷_, map}
-use mathlib.Core.Bool.{true, false}
+use mathlib.Core.Bool.{Bool, true, false, true≢false}
 use mathlib.Core.Option.{Option, none, some}
-use lib.ListN.{length, take, drop}
-use lib.Seq.{take-nil}
-use Rattle.text.specs.Parts.{partsFrom, untilByte, same, LF}
+use lib.ListN.{length, take, drop, length-drop}
+use lib.Seq.{take-nil, length-take-le}
+use Rattle.text.specs.Parts.{split, partsFrom, untilByte, same, LF, comma}
 use Rattle.text.specs.Text.{Text}
-use Rattle.text.proofs.Places.{parts-whole, parts-none, parts-next}
+use Rattle.text.proofs.Places.{parts-whole, parts-none, parts-next, at-front}
+use Rattle.text.proofs.Tests.{same-when, same-equal}
 use Rattle.phrases.specs.Phrases.{oneMore, place}
 use Rattle.phrases.specs.Lookup.{phraseText, ownTexts}
+use Rattle.phrases.proofs.Entries.{until-within}
 
 -- ---- the place of a text among texts that stand behind n others
 
@@ -72,3 +74,33 @@ module _ (count : ℕ) (s : List ℕ) where
         → ownFrom count n a s ≡ phraseText (take (e - a) (drop a s)) ∷ ownFrom count (n + 1) (e + 1) s
     unfolding ownFrom
     own-next e l h k = let m : count - n ≡ suc (count - (n + 1)) = omega arith in rw (m, parts-next LF s a e h k)
+
+-- ---- the TEXT of a line `phrase,TEXT`, where the fields behind the first begin at the place a
+
+module _ (line : List ℕ) (a : ℕ) (k : drop 1 (split comma line) ≡ partsFrom comma a line) (h : a ≤ length line) where
+  text-from : phraseText line ≡ take (untilByte comma (drop a line)) (drop a line)
+  text-from =
+      let e = a + untilByte comma (drop a line) in
+      let u : e - a ≡ untilByte comma (drop a line) = omega arith in
+      at-front (split comma line) 1 ∙ rw (k, parts-next comma line a e h refl, u)
+
+  -- a text that is it stands there
+  stands : (t : Text) → t ≡ phraseText line → (a + length t ≤ length line) × (t ≡ take (length t) (drop a line))
+  stands t e =
+      let n = untilByte comma (drop a line) in
+      let long : length t ≡ n = ap length (e ∙ text-from) ∙ length-take-le n (drop a line) (until-within comma (drop a line)) in
+      (omega (arith, until-within comma (drop a line), length-drop a line), e ∙ text-from ∙ rw long refl)
+
+  pub no-room : (t : Text) → length line - a < length t → same t (phraseText line) ≡ false
+  no-room t l = go (same t (phraseText line)) refl
+    where
+      go : (v : Bool) → same t (phraseText line) ≡ v → v ≡ false
+      go true e = absurd (omega (arith, stands t (same-equal t (phraseText line) e) .0))
+      go false e = refl
+
+  pub other-text : (t : Text) → same t (take (length t) (drop a line)) ≡ false → same t (phraseText line) ≡ false
+  other-text t f = go (same t (phraseText line)) refl
+    where
+      go : (v : Bool) → same t (phraseText line) ≡ v → v ≡ false
+      go true e = absurd (true≢false (sym (same-when t (take (length t) (drop a line)) (stands t (same-equal t (phraseText line) e) .1)) ∙ f))
+      go false e = refl

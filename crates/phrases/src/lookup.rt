@@ -1,13 +1,31 @@
 // Where a text is a phrase: among the lines of the book, then among the own phrases; and the text of a phrase by its place.
 ghost use mathlib.Core.Path.{_≡_};
 ghost use Rattle.phrases.specs.Phrases as phrases;
-ghost use Rattle.phrases.specs.Lookup.{ownTexts, phrasesIn, phraseIn, placeAnswer, foundAnswer};
+ghost use Rattle.text.specs.Parts.{same};
+ghost use Rattle.phrases.specs.Lookup.{phraseText, ownTexts, phrasesIn, phraseIn, placeAnswer, foundAnswer};
 ghost use Rattle.phrases.specs.Index.{Indexed};
 use crate::Found;
 use crate::index::Place;
 use crate::index::find_line;
 use crate::index::text_of;
 use crate::numbers::count_of;
+
+// Whether a text is the TEXT of a line `phrase,TEXT`. Where the line does not go on with the text, that field's end is not looked for.
+fn is_phrase(line: &[u8], text: &[u8]) -> bool
+    ensures { λ r. ⌜ r ≡ same (now (text .entry)) (phraseText (now (line .entry))) ⌝ }
+{
+    let a = text::part_start(line, b',', 1);
+    if a <= line.len() {
+        if line.len() - a < text.len() {
+            return false;
+        }
+        let e = a + text.len();
+        if !text::same(text, &line[a..e]) {
+            return false;
+        }
+    }
+    text::same(text, text::part(line, b',', 1))
+}
 
 // The place of a text among the texts of the first `count` lines `phrase,TEXT`.
 fn find_own(own: &[u8], count: usize, text: &[u8]) -> Place
@@ -19,8 +37,8 @@ fn find_own(own: &[u8], count: usize, text: &[u8]) -> Place
         if own.len() < a {
             return Place::Missing;
         }
-        let e = text::find(own, a, b'\n');
-        if text::same(text, text::part(&own[a..e], b',', 1)) {
+        let e = text::find_far(own, a, b'\n');
+        if is_phrase(&own[a..e], text) {
             return Place::At(n);
         }
         a = e + 1;

@@ -3,7 +3,6 @@ use Prim.Native.Nat.{_+_, _-_, _≤_}
 use mathlib.Core.Path.{_≡_, ap, sym, _∙_}
 use lib.ListN.{length}
 use borrow.Author.Needs.{needs}
-use Rattle.text.specs.Parts.{same}
 use Rattle.phrases.specs.Phrases.{place}
 use Rattle.phrases.specs.Lookup.{ownTexts, placeAnswer}
 use Rattle.phrases.proofs.Search.{placeFrom, place-whole, place-none, place-here, place-on, ownFrom, own-whole, own-end, own-none, own-next}
@@ -23,31 +22,27 @@ loop-holds c = (ap (λ ts. place ts (c .before .before .args .text .now)) (own-w
 returns : tie.Need-returns Inv-loop μ-loop
 returns c = sym (ap placeAnswer (c .before .before .loop .inv .0 ∙ place-none _ _ _ (own-end _ _ _ _ (c .if1 .taken))))
 
-find-requires : tie.Need-find-requires Inv-loop μ-loop
-find-requires c κs = search needs
+find-far-requires : tie.Need-find-far-requires Inv-loop μ-loop
+find-far-requires c κs = search needs
 
-sub-part : tie.Need-sub-part Inv-loop μ-loop
-sub-part c = search needs
+sub-is-phrase : tie.Need-sub-is-phrase Inv-loop μ-loop
+sub-is-phrase c = search needs
 
-part-part-start : tie.Need-part-part-start Inv-loop μ-loop
-part-part-start c = search needs
+part-is-phrase-start : tie.Need-part-is-phrase-start Inv-loop μ-loop
+part-is-phrase-start c = search needs
 
-part-part-end : tie.Need-part-part-end Inv-loop μ-loop
-part-part-end c = search needs
+part-is-phrase-end : tie.Need-part-is-phrase-end Inv-loop μ-loop
+part-is-phrase-end c = search needs
 
-part-requires : tie.Need-part-requires Inv-loop μ-loop
-part-requires c κs = search needs
-
-same-requires : tie.Need-same-requires Inv-loop μ-loop
-same-requires c κs = search needs
+is-phrase-requires : tie.Need-is-phrase-requires Inv-loop μ-loop
+is-phrase-requires c κs = search needs
 
 returns-2 : tie.Need-returns-2 Inv-loop μ-loop
 returns-2 c =
-    let f = c .before .before .before .before in
+    let f = c .before .before .before in
     let l = f .before .before .before in
-    let n = own-next _ _ _ _ _ (f .before .before .loop-test .taken) (f .before .if1 .left) (f .find .ensures .0) in
-    let e = sym (c .before .same .ensures ∙ ap (same (l .before .before .before .args .text .now)) (c .before .before .part .ensures)) in
-    sym (ap placeAnswer (l .loop .inv .0 ∙ place-here _ _ _ _ _ n (e ∙ c .if2 .taken)))
+    let n = own-next _ _ _ _ _ (f .before .before .loop-test .taken) (f .before .if1 .left) (f .find-far .ensures .0) in
+    sym (ap placeAnswer (l .loop .inv .0 ∙ place-here _ _ _ _ _ n (sym (c .before .is-phrase .ensures) ∙ c .if2 .taken)))
 
 add-a : tie.Need-add-a Inv-loop μ-loop
 add-a c = search needs
@@ -60,11 +55,10 @@ loop-less c = search needs
 
 loop-again : tie.Need-loop-again Inv-loop μ-loop
 loop-again c =
-    let f = c .before .before .before .before in
+    let f = c .before .before .before in
     let l = f .before .before .before in
-    let n = own-next _ _ _ _ _ (f .before .before .loop-test .taken) (f .before .if1 .left) (f .find .ensures .0) in
-    let e = sym (c .before .same .ensures ∙ ap (same (l .before .before .before .args .text .now)) (c .before .before .part .ensures)) in
-    (l .loop .inv .0 ∙ place-on _ _ _ _ _ n (e ∙ c .if2 .left), search needs, search needs)
+    let n = own-next _ _ _ _ _ (f .before .before .loop-test .taken) (f .before .if1 .left) (f .find-far .ensures .0) in
+    (l .loop .inv .0 ∙ place-on _ _ _ _ _ n (sym (c .before .is-phrase .ensures) ∙ c .if2 .left), search needs, search needs)
 
 returns-3 : tie.Need-returns-3 Inv-loop μ-loop
 returns-3 c = sym (ap placeAnswer (c .before .loop .inv .0 ∙ place-none _ _ _ (own-none _ _ _ _ (c .loop-test .left))))
@@ -77,12 +71,11 @@ find-own-spec =
     μ-loop
     loop-holds
     returns
-    find-requires
-    sub-part
-    part-part-start
-    part-part-end
-    part-requires
-    same-requires
+    find-far-requires
+    sub-is-phrase
+    part-is-phrase-start
+    part-is-phrase-end
+    is-phrase-requires
     returns-2
     add-a
     add-n

@@ -25,34 +25,42 @@ pub eight-below : (bytes : List ℕ) (i : ℕ) → ((k : ℕ) → Fits w8 (getD 
 eight-below bytes i h =
     (h i .fits, h (i + 1) .fits, h (i + 2) .fits, h (i + 3) .fits, h (i + 4) .fits, h (i + 5) .fits, h (i + 6) .fits, h (i + 7) .fits)
 
--- k bytes, and one more behind them
-byte-behind : (bytes : List ℕ) (i k : ℕ) → i + k < length bytes → getD bytes (i + k) 0 < 256
-    → valueOf (take ((k + 1) * 8) (drop (i * 8) (bytesBits bytes)))
-    ≡ valueOf (take (k * 8) (drop (i * 8) (bytesBits bytes))) * 256 + getD bytes (i + k) 0
-byte-behind bytes i k h b =
-    let bits = bytesBits bytes in
-    let byte = getD bytes (i + k) 0 in
-    let long = length-bytesBits bytes in
-    let cut = value-cut (drop (i * 8) bits) ((k + 1) * 8) (k * 8) (omega arith) (omega (arith, length-drop (i * 8) bits)) in
-    let eight : take 8 (bitsOf 8 byte) ≡ bitsOf 8 byte = take-all 8 (bitsOf 8 byte) (omega (arith, length-bitsOf 8 byte)) in
-    let last : valueOf (take 8 (drop ((i + k) * 8 + 0) bits)) ≡ byte =
-    ap valueOf (bits-in-byte bytes (i + k) 0 8 h (omega arith) ∙ eight) ∙ value-of-bits 8 byte b in
-    let one : (k + 1) * 8 - k * 8 ≡ 8 = omega arith in
-    let place : i * 8 + k * 8 ≡ (i + k) * 8 + 0 = omega arith in
-    rw (one, drop-drop (k * 8) (i * 8) bits, place, last) at cut
+module _ (bytes : List ℕ) (i : ℕ) (there : i + 7 < length bytes) (b : (k : ℕ) → Fits w8 (getD bytes k 0)) where
+  -- k bytes, and one more behind them
+  byte-behind : (k : ℕ) → k ≤ 7
+      → valueOf (take ((k + 1) * 8) (drop (i * 8) (bytesBits bytes)))
+      ≡ valueOf (take (k * 8) (drop (i * 8) (bytesBits bytes))) * 256 + getD bytes (i + k) 0
+  byte-behind k h =
+      let bits = bytesBits bytes in
+      let byte = getD bytes (i + k) 0 in
+      let long = length-bytesBits bytes in
+      let cut = value-cut (drop (i * 8) bits) ((k + 1) * 8) (k * 8) (omega arith) (omega (arith, length-drop (i * 8) bits)) in
+      let eight : take 8 (bitsOf 8 byte) ≡ bitsOf 8 byte = take-all 8 (bitsOf 8 byte) (omega (arith, length-bitsOf 8 byte)) in
+      let last : valueOf (take 8 (drop ((i + k) * 8 + 0) bits)) ≡ byte =
+      ap valueOf (bits-in-byte bytes (i + k) 0 8 (omega arith) (omega arith) ∙ eight) ∙ value-of-bits 8 byte (b (i + k) .fits) in
+      let one : (k + 1) * 8 - k * 8 ≡ 8 = omega arith in
+      let place : i * 8 + k * 8 ≡ (i + k) * 8 + 0 = omega arith in
+      rw (one, drop-drop (k * 8) (i * 8) bits, place, last) at cut
 
--- eight bytes
-pub word-value : (bytes : List ℕ) (i : ℕ) → i + 7 < length bytes → ((k : ℕ) → getD bytes k 0 < 256)
-    → ((((((getD bytes i 0 * 256 + getD bytes (i + 1) 0) * 256 + getD bytes (i + 2) 0) * 256 + getD bytes (i + 3) 0) * 256
-    + getD bytes (i + 4) 0) * 256 + getD bytes (i + 5) 0) * 256 + getD bytes (i + 6) 0) * 256 + getD bytes (i + 7) 0
-    ≡ valueOf (take 64 (drop (i * 8) (bytesBits bytes)))
-unfolding valueOf
-word-value bytes i h b =
-    let e : (k : ℕ) → k ≤ 7 → valueOf (take ((k + 1) * 8) (drop (i * 8) (bytesBits bytes)))
-    ≡ valueOf (take (k * 8) (drop (i * 8) (bytesBits bytes))) * 256 + getD bytes (i + k) 0
-    = λ k l. byte-behind bytes i k (omega arith) (b (i + k)) in
-    let here : i + 0 ≡ i = omega arith in
-    omega (arith, rw here at (e 0 (omega arith)), e 1 (omega arith), e 2 (omega arith), e 3 (omega arith), e 4 (omega arith), e 5 (omega arith), e 6 (omega arith), e 7 (omega arith))
+  -- eight bytes
+  pub word-value : ((((((getD bytes i 0 * 256 + getD bytes (i + 1) 0) * 256 + getD bytes (i + 2) 0) * 256 + getD bytes (i + 3) 0) * 256
+      + getD bytes (i + 4) 0) * 256 + getD bytes (i + 5) 0) * 256 + getD bytes (i + 6) 0) * 256 + getD bytes (i + 7) 0
+      ≡ valueOf (take 64 (drop (i * 8) (bytesBits bytes)))
+  unfolding valueOf
+  word-value =
+      let here : i + 0 ≡ i = omega arith in
+      let first = rw here at (byte-behind 0 (omega arith)) in
+      omega (
+        arith,
+        first,
+        byte-behind 1 (omega arith),
+        byte-behind 2 (omega arith),
+        byte-behind 3 (omega arith),
+        byte-behind 4 (omega arith),
+        byte-behind 5 (omega arith),
+        byte-behind 6 (omega arith),
+        byte-behind 7 (omega arith),
+      )
 
 -- the number that w bits of the word are, from the bit `at` on, with the powers of two as numbers at hand
 module _ (bytes : List ℕ) (at w unit values word : ℕ) (few : w ≤ 32) (there : at / 8 + 7 < length bytes) (eu : unit ≡ 2 ^ (64 - at % 8 - w))

@@ -1,4 +1,4 @@
--- `bits::two_to` meets its contract: a shift of 1 by at most 32 loses nothing. Assumes nothing.
+-- `bits::two_to` meets its contract: a shift of 1 by at most 63 loses nothing. Assumes nothing.
 use Prim.Native.Nat.{_^_, _*_, _%_}
 use mathlib.Core.Path.{_≡_, refl, _∙_}
 use native.Mathlib.Nat.{one-mul}

@@ -123,7 +123,7 @@ add-result-2 c = omega (arith, below (c .before .before .before .before .before 
 returns : tie.Need-returns
 returns c =
     let a = c .before .before .before .before .before .before .before .before .args in
-    word-value (a .bytes .now) (a .index) (search needs) (λ k. omega (arith, c .shared-slice-known8 .given k))
+    word-value (a .bytes .now) (a .index) (search needs) (c .shared-slice-known8 .given)
 
 pub word-spec : {M : Type 1} → statement M
 word-spec =

@@ -1,5 +1,2 @@
-pub mod Ahead
-pub mod AcceptedListing
-pub mod InstructionLines
-pub mod Searched
+pub mod ListingCode
 pub mod Call

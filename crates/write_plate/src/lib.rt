@@ -1,10 +1,6 @@
 // The call `write_plate`: the plate of a listing, with a book.
-// The book is checked, then the listing, line by line, then each skip, and a refusal leaves the buffer as it was. Crate listing's
-// specs/Calls.antt says what the call answers and leaves in the lent buffer. The plate is made in an array of the longest plate's length,
-// and copied to the front of the lent buffer, so that a plate that is refused leaves it as it was and the bytes behind a plate stay.
-
-mod passes;
-mod skips;
+// The book is checked, then the listing, line by line; then crate assemble makes the plate, or finds a skip that goes too far. A refusal
+// leaves the buffer as it was. Crate listing's specs/Calls.antt says what the call answers and leaves in the lent buffer.
 
 use causes::Cause;
 use causes::Refusal;
@@ -12,7 +8,6 @@ use causes::Written;
 use lines::Checked;
 use lines::Form;
 use phrases::Book;
-use skips::Past;
 ghost use mathlib.Core.Path.{_≡_};
 ghost use Rattle.causes.specs.Answers.{writtenAnswer};
 ghost use Rattle.listing.specs.Calls.{writePlateCall};
@@ -29,15 +24,16 @@ pub fn write_plate(listing: &[u8], book: &[u8], plate: &mut [u8]) -> Written
         }),
         Book::Holds(_) => match lines::check(Form::Listing, &index, book, listing) {
             Checked::Refused(r) => Written::Refused(r),
-            Checked::Fine { own, instructions } => {
-                match skips::first_past(listing, own, instructions) {
-                    Past::Line(line) => Written::Refused(Refusal {
-                        cause: Cause::Skip,
-                        place: line,
-                    }),
-                    Past::Nowhere => passes::write(listing, &index, book, own, instructions, plate),
-                }
-            }
+            Checked::Fine { own, instructions } => assemble::write(
+                Form::Listing,
+                listing,
+                &[],
+                &index,
+                book,
+                own,
+                instructions,
+                plate,
+            ),
         },
     }
 }

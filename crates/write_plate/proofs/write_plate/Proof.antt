@@ -1,8 +1,9 @@
--- `write_plate` meets its contract: the book's refusal, the listing's, a skip's, or what the two passes leave.
+-- `write_plate` meets its contract: the book's refusal, the listing's, or what the plate's writer leaves.
 use mathlib.Core.Path.{sym, _∙_}
 use borrow.Author.Needs.{needs}
 use Rattle.phrases.proofs.Answers.{answer-is}
-use Rattle.write_plate.proofs.Call.{call-book, call-listing, call-skip, call-written}
+use Rattle.assemble.proofs.Accepted.{accepted-listed, accepted-counted}
+use Rattle.write_plate.proofs.Call.{call-book, call-listing, call-written}
 use Rattle.write_plate.proofs.write_plate.Statement.{statement}
 use Rattle.write_plate.proofs.write_plate.Tie as tie
 
@@ -30,59 +31,33 @@ enum-known-r c = search needs
 enum-known-own : tie.Need-enum-known-own
 enum-known-own c = search needs
 
-first-past-requires : tie.Need-first-past-requires
-first-past-requires c κs =
-    record { book = _; checked = sym (c .before .before .before .check .ensures) ∙ c .before .own .given .1 }
-
-enum-known-line-2 : tie.Need-enum-known-line-2
-enum-known-line-2 c = search needs
-
-enum-told-2 : tie.Need-enum-told-2
-enum-told-2 c = search needs
-
 slice-aggregate-write : tie.Need-slice-aggregate-write
 slice-aggregate-write c = search needs
 
+slice-aggregate-write-2 : tie.Need-slice-aggregate-write-2
+slice-aggregate-write-2 c = search needs
+
 write-requires : tie.Need-write-requires
 write-requires c κs =
-    let own = c .before .before .before .before .before .before in
-    let book = own .before .before .before .before in (
-      book .before .before .before .check-book .ensures .1 _ (book .enum-told .given .1),
-      record { book = _; checked = sym (own .before .before .check .ensures) ∙ own .own .given .1 },
-    )
+    let listing = sym (c .before .before .before .before .before .before .check .ensures) ∙ c .before .before .before .before .own .given .1 in
+    (accepted-listed _ _ _ listing (c .before .before .before .before .before .before .before .before .before .before .before .check-book .ensures .1 _ (c .before .before .before .before .before .before .before .before .enum-told .given .1)), accepted-counted _ _ _ listing _)
 
 returns : tie.Need-returns
-returns c =
-    call-book _ _ _ _ (sym (answer-is _ _ (c .before .before .before .before .check-book .ensures .0)) ∙ c .before .line .given .1)
+returns c = call-book _ _ _ _ (sym (answer-is _ _ (c .before .before .before .before .check-book .ensures .0)) ∙ c .before .line .given .1)
 
 returns-2 : tie.Need-returns-2
 returns-2 c =
-    let check = c .before .before .before in
-    let n = check .before .before in
-    let book = sym (answer-is _ _ (n .before .before .before .check-book .ensures .0)) ∙ n .enum-told .given .1 in
-    call-listing _ _ _ book _ (sym (check .check .ensures) ∙ c .before .r .given .1)
-
-returns-3 : tie.Need-returns-3
-returns-3 c =
-    let own = c .before .before .before .before .before in
-    let check = own .before .before in
-    let n = check .before .before in
-    let book = sym (answer-is _ _ (n .before .before .before .check-book .ensures .0)) ∙ n .enum-told .given .1 in
-    let listing = sym (check .check .ensures) ∙ own .own .given .1 in
-    call-skip _ _ _ book listing _ (sym (c .before .before .before .first-past .ensures) ∙ c .before .line2 .given .1)
+    let book = sym (answer-is _ _ (c .before .before .before .before .before .before .before .before .check-book .ensures .0)) ∙ c .before .before .before .before .before .enum-told .given .1 in
+    call-listing _ _ _ book _ (sym (c .before .before .before .check .ensures) ∙ c .before .r .given .1)
 
 same-length : tie.Need-same-length
 same-length c = search needs
 
-returns-4 : tie.Need-returns-4
-returns-4 c =
-    let told = c .before .before .before .before .before in
-    let own = told .before .before .before .before in
-    let check = own .before .before in
-    let n = check .before .before in
-    let book = sym (answer-is _ _ (n .before .before .before .check-book .ensures .0)) ∙ n .enum-told .given .1 in
-    let listing = sym (check .check .ensures) ∙ own .own .given .1 in
-    call-written _ _ _ book listing _ (sym (told .before .before .first-past .ensures) ∙ told .enum-told2 .given .1) (c .before .before .write .ensures)
+returns-3 : tie.Need-returns-3
+returns-3 c =
+    let book = sym (answer-is _ _ (c .before .before .before .before .before .before .before .before .before .before .before .before .before .before .check-book .ensures .0)) ∙ c .before .before .before .before .before .before .before .before .before .before .before .enum-told .given .1 in
+    let listing = sym (c .before .before .before .before .before .before .before .before .before .check .ensures) ∙ c .before .before .before .before .before .before .before .own .given .1 in
+    call-written _ _ _ book listing _ _ (c .before .before .write .ensures)
 
 pub write-plate-spec : {M : Type 1} → statement M
 write-plate-spec =
@@ -96,13 +71,10 @@ write-plate-spec =
     check-requires
     enum-known-r
     enum-known-own
-    first-past-requires
-    enum-known-line-2
-    enum-told-2
     slice-aggregate-write
+    slice-aggregate-write-2
     write-requires
     returns
     returns-2
-    returns-3
     same-length
-    returns-4)
+    returns-3)

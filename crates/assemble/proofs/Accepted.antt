@@ -1,0 +1,76 @@
+-- What the check of a text says: no line has a cause by itself, and there are as many own phrases and instructions as it counted.
+use Prim.Native.Nat.{ℕ, suc, _+_, _≤_}
+use native.Mathlib.Omega.{arith}
+use mathlib.Core.Path.{_≡_, ap, _∙_}
+use mathlib.Core.List.{List, [], _∷_}
+use lib.ListN.{length, drop, getD, length-append}
+use borrow.Author.Tests.{le-leb}
+use Rattle.text.specs.Text.{Text}
+use Rattle.phrases.specs.Lookup.{ownTexts}
+use Rattle.phrases.specs.Index.{Indexed, Listed}
+use Rattle.lines.specs.declared.Form.{Form}
+use Rattle.lines.specs.declared.Checked.the-variants.{Fine}
+use Rattle.lines.specs.Line.{Line, phrase, says, ifLine, elseLine, fiLine, gotoLine, ifSkipLine, faulty}
+use Rattle.lines.specs.Check.{Seen, nothingSeen, next, mostBytes, linesOf, Accepted}
+use Rattle.lines.specs.Answers.{seenIn, checkedAnswer}
+use Rattle.lines.proofs.Passes.{Passes, passes-check}
+use Rattle.lines.proofs.Accepts.{Accepts, accepts}
+use Rattle.lines.proofs.Answers.{accept-is}
+use Rattle.lines.proofs.CleanTexts.{passes-clean}
+use Rattle.assemble.specs.LineCode.{lineCode, linesCode}
+use Rattle.assemble.specs.Assembled.{Counted}
+
+-- ---- the check counts the instructions, whatever their skips are
+
+line-counted : (n k : ℕ) (l : Line) (s : Seen) → next n l s .instructions ≡ s .instructions + length (lineCode k l)
+line-counted n k (phrase t) s = omega arith
+line-counted n k (says x) s = omega arith
+line-counted n k (ifLine test) s = omega arith
+line-counted n k elseLine s = omega arith
+line-counted n k fiLine s = omega arith
+line-counted n k (gotoLine j) s = omega arith
+line-counted n k (ifSkipLine test j) s = omega arith
+line-counted n k (faulty c) s = omega arith
+
+lines-counted : (book : List Text) (n : ℕ) (s last : Seen) (ks : List ℕ) (ls : List Line) → Passes book n s last ls
+    → s .instructions + length (linesCode ks ls) ≡ last .instructions
+unfolding linesCode
+lines-counted book n s last ks [] p = omega (arith, ap (λ (s : Seen). s .instructions) (p .1))
+lines-counted book n s last ks (l ∷ ls) p =
+    let k = getD ks 0 0 in
+    let rest = drop (length (lineCode k l)) ks in
+    omega (arith, lines-counted book (suc n) (next n l s) last rest ls (p .1), line-counted n k l s, length-append (lineCode k l) (linesCode rest ls))
+
+-- ---- an accepted text
+
+module _ (form : Form) (book : List Text) (text : List ℕ) {own n : ℕ} (c : checkedAnswer (seenIn form book text) ≡ Fine own n) where
+  abbrev held : Accepted
+  held = record { own = ownTexts own text; lines = linesOf form text }
+
+  holds : Accepts form book text held
+  holds = accepts form book text held (accept-is form text book c)
+
+  -- what the check has seen at the end
+  seen-is : (length (holds .seen .own) ≡ own) × (holds .seen .instructions ≡ n)
+  unfolding seenIn
+  seen-is =
+      let e = passes-check book 1 nothingSeen (holds .seen) (linesOf form text) (holds .passes) in
+      let k : Fine (length (holds .seen .own)) (holds .seen .instructions) ≡ Fine own n = rw (le-leb (length text) (mostBytes form) (holds .size), e) at c in
+      (cc, cc)
+
+  pub few-bytes : length text ≤ mostBytes form
+  few-bytes = holds .size
+
+  pub own-there : length (ownTexts own text) ≡ own
+  own-there = ap length (holds .own) ∙ seen-is .0
+
+  pub accepted-listed : {index bytes : List ℕ} → Indexed index bytes → Listed index bytes text own
+  accepted-listed i = (i, own-there, omega (arith, own-there, holds .few))
+
+  pub accepted-counted : (skips : List ℕ) → Counted form skips text n
+  accepted-counted skips =
+      record {
+        clean = passes-clean book 1 nothingSeen (holds .seen) (linesOf form text) (holds .passes);
+        count = omega (arith, lines-counted book 1 nothingSeen (holds .seen) skips (linesOf form text) (holds .passes), seen-is .1);
+        few = omega (arith, holds .room, seen-is .1);
+      }

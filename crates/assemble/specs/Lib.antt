@@ -1,0 +1,2 @@
+pub mod LineCode
+pub mod Assembled

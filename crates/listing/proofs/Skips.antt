@@ -26,10 +26,22 @@ within-ok behind (statement x) h k = h
 within-ok behind (goto j) h k = k
 within-ok behind (ifSkip t j) h k = (h .0, k)
 
-pub none-past : (n : ℕ) (is : List Instruction) → InstructionsOk is → firstPast n is ≡ none
+-- each instruction skips at most what stands behind it
+abbrev pub SkipsFit : List Instruction → Type 0
+SkipsFit [] = Unit
+SkipsFit (i ∷ is) = (skipOf i ≤ length is) × SkipsFit is
+
+pub fit-none-past : (n : ℕ) (is : List Instruction) → SkipsFit is → firstPast n is ≡ none
 unfolding firstPast
-none-past n [] h = refl
-none-past n (i ∷ is) h = rw (le-leb (skipOf i) (length is) (skip-within (length is) i (h .0)), firstPast) (none-past (suc n) is (h .1))
+fit-none-past n [] h = refl
+fit-none-past n (i ∷ is) h = rw (le-leb (skipOf i) (length is) (h .0), firstPast) (fit-none-past (suc n) is (h .1))
+
+skips-fit : (is : List Instruction) → InstructionsOk is → SkipsFit is
+skips-fit [] h = tt
+skips-fit (i ∷ is) h = (skip-within (length is) i (h .0), skips-fit is (h .1))
+
+pub none-past : (n : ℕ) (is : List Instruction) → InstructionsOk is → firstPast n is ≡ none
+none-past n is h = fit-none-past n is (skips-fit is h)
 
 pub instructions-ok : (ts : List Text) (n : ℕ) (is : List Instruction) → LinesOk Listing (programLines ts is) → firstPast n is ≡ none
     → InstructionsOk is

@@ -3,6 +3,4 @@ pub mod Counted
 pub mod Cases
 pub mod Counting
 pub mod Coded
-pub mod LineInstructions
-pub mod LinesWritten
 pub mod Whole

@@ -9,13 +9,9 @@ use Rattle.text.specs.Text.{Text}
 use Rattle.guide.specs.Guide.{Guide, guideOf}
 use Rattle.guide.specs.Block.{Block, empty, does, ifThen, ifElse}
 use Rattle.plate.specs.Program.{Instruction, goto, skipOf}
+use Rattle.listing.proofs.Skips.{SkipsFit}
 use Rattle.translate.specs.Translation.{translateBlock, translateGuide}
 use Rattle.translate.proofs.Counted.{guide-room}
-
--- each instruction skips at most what stands behind it
-abbrev pub SkipsFit : List Instruction → Type 0
-SkipsFit [] = Unit
-SkipsFit (i ∷ is) = (skipOf i ≤ length is) × SkipsFit is
 
 fit-append : (p q : List Instruction) → SkipsFit p → SkipsFit q → SkipsFit (p ++ q)
 fit-append [] q h k = k

@@ -3,7 +3,7 @@ use Prim.Native.Nat.{ℕ, zero, suc, _+_, _≤_}
 use mathlib.Core.Path.{_≡_}
 use mathlib.Core.List.{List, [], _∷_, _++_}
 use mathlib.Core.Bool.{Bool, true, false}
-use lib.ListN.{length, drop}
+use lib.ListN.{length, drop, replicate}
 use Rattle.output.specs.Pour.{pour}
 use Rattle.lines.specs.declared.Form.the-variants.{Guide as aGuide}
 use Rattle.lines.specs.Clean.{Clean}
@@ -75,6 +75,10 @@ blockWith false f ls = record { skips = []; lines = ls }
 unfoldable pub blockLength : ℕ → Counter
 blockLength zero ls = record { skips = []; lines = ls }
 blockLength (suc n) ls = blockWith (beginsBy (firstRole ls)) (blockLength n) ls
+
+-- the table of skips: 512 numbers, and from the first on those of the guide's instructions
+unfoldable pub skipTable : List ℕ → List ℕ
+skipTable g = pour 0 (blockLength (length g + 2) (linesAt g 0) .skips) (replicate 512 0)
 
 -- ---- what the code answers, and what it leaves in the table of skips
 

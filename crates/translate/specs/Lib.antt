@@ -1,4 +1,3 @@
 pub mod Translation
 pub mod Call
 pub mod Lengths
-pub mod LineCode

@@ -1,11 +1,9 @@
 // The translator: guide to plate.
 // specs/Translation.antt says which instructions a block is, specs/Call.antt what the call answers and leaves in the lent buffer.
 // The book is checked, then the guide, and a refusal leaves the buffer as it was. The skips are counted first, by recursion into nested
-// blocks, into a table of 512 numbers (specs/Lengths.antt). Then the instructions are written line by line, as specs/LineCode.antt says: an
-// if and an else line take their skip from the table. The plate's bits are made twice: first on no buffer, to learn how many there are, and
-// then on the part of the lent one that they take.
+// blocks, into a table of 512 numbers (specs/Lengths.antt). Then crate assemble makes the plate line by line: an if and an else line take
+// their skip from the table.
 
-mod instructions;
 mod lengths;
 mod passes;
 mod table;

@@ -2,7 +2,6 @@
 ghost use mathlib.Core.Path.{_≡_};
 ghost use mathlib.Core.List.{[], _∷_};
 ghost use Prim.Native.Nat.{_<_};
-ghost use lib.ListN.{getD};
 ghost use Rattle.output.specs.Pour.{pour};
 
 // The skip of an instruction is stored, where the table has a place for it.
@@ -13,14 +12,4 @@ pub fn store(skips: &mut [u16], number: usize, skip: usize)
     if number < skips.len() {
         skips[number] = skip as u16;
     }
-}
-
-// The skip of an instruction.
-pub fn skip_at(skips: &[u16], number: usize) -> usize
-    ensures { λ r. ⌜ r ≡ getD (now (skips .entry)) number 0 ⌝ }
-{
-    if number < skips.len() {
-        return skips[number] as usize;
-    }
-    0
 }

@@ -7,32 +7,12 @@ use types.Run.{OneOf, miss}
 use denote.Enum.Declared.{tagOf}
 use Rattle.output.specs.Pour.{poured}
 use Rattle.output.proofs.Pour.{none}
-use Rattle.text.specs.Parts.{split, comma}
 use Rattle.text.specs.Text.{Text}
 use Rattle.phrases.specs.Phrases.{Phrases}
-use Rattle.transcript.specs.Statement.{Statement}
-use Rattle.lines.specs.declared.Form.{Form}
 use Rattle.lines.specs.declared.Head.{Head}
 use Rattle.lines.specs.declared.Head.the-variants as head
-use Rattle.lines.specs.Line.{Line, says, lineOf}
-use Rattle.lines.specs.Answers.{headOf}
 use Rattle.lines.proofs.Head.{the-type}
-use Rattle.lines.proofs.FieldsRead.{
-  ReadAs,
-  as-fault,
-  as-phrase,
-  as-input,
-  as-inputs,
-  as-print,
-  as-printex,
-  as-if,
-  as-else,
-  as-fi,
-  as-goto,
-  as-if-skip,
-  line-read-as,
-}
-use Rattle.plate.specs.Program.{Instruction, statement}
+use Rattle.plate.specs.Program.{Instruction}
 use Rattle.plate.specs.Writing.{instructionBits, instructionsBits}
 use Rattle.writer.specs.Listing.{lineInstruction, lineBits}
 
@@ -63,23 +43,3 @@ pub line-silent : (c : Phrases) (fs : List Text) (h : Head) (at : ℕ) (old : Li
     → at ≤ 18446744073709551615 → (at, old) ≡ poured at (lineBits c h fs) old
 unfolding lineBits instructionsBits
 line-silent c fs h at old k m = rw (silent-none h fs k) (none at old m)
-
--- ---- the instruction of a line that says a statement
-
-says-read : {form : Form} {fs : List Text} {l : Line} → ReadAs form fs l → (x : Statement) → l ≡ says x
-    → lineInstruction (headOf l) fs ≡ statement x ∷ []
-says-read (as-fault c) x e = cc
-says-read (as-phrase t) x e = cc
-says-read (as-input r t) x e = cc
-says-read (as-inputs n r t) x e = cc
-says-read (as-print t) x e = cc
-says-read (as-printex t) x e = cc
-says-read (as-if r o c) x e = cc
-says-read as-else x e = cc
-says-read as-fi x e = cc
-says-read (as-goto k) x e = cc
-says-read (as-if-skip r o c k) x e = cc
-
-pub line-says : (form : Form) (s : List ℕ) (x : Statement) → lineOf form s ≡ says x
-    → lineInstruction (headOf (lineOf form s)) (split comma s) ≡ statement x ∷ []
-line-says form s x e = says-read (line-read-as form s) x e

@@ -1,16 +1,13 @@
--- From the bits that are written to the plate in a lent buffer: a first pass counts them, and a second one writes them into as many bytes
--- of the buffer as they take.
-use Prim.Native.Nat.{ℕ, zero, suc, _+_, _-_, _*_, _/_, _%_, _≤_, _<_}
+-- From the bits that are written to the plate in a lent buffer: the filling behind them, and the room that they take.
+use Prim.Native.Nat.{ℕ, _+_, _-_, _*_, _/_, _%_, _≤_, _<_}
 use native.Mathlib.Omega.{arith}
 use mathlib.Core.Path.{_≡_, refl, sym, ap, _∙_}
-use mathlib.Core.List.{List, [], _∷_, _++_, append-nil}
+use mathlib.Core.List.{List, _++_}
 use mathlib.Core.Bool.{Bool, true, false, cond}
-use lib.ListN.{length, take, drop, getD, length-append, drop-of-length-le, take-append-drop}
-use lib.Seq.{length-take-le}
+use lib.ListN.{length, drop, getD, length-append}
 use lib.Dec.{leb, ltb}
 use borrow.Author.Tests.{ltb-true, ltb-false, leb-true, leb-false, le-leb, lt-leb}
 use Rattle.causes.specs.Answers.{Result, made, refused, Answer, wrote, refusing}
-use Rattle.causes.specs.declared.Refusal.{Refusal}
 use Rattle.causes.specs.declared.Cause.the-variants.{PlateTooLong, TooShort}
 use Rattle.causes.proofs.Lent.{written}
 use Rattle.causes.proofs.Results.{never}
@@ -19,7 +16,7 @@ use Rattle.output.proofs.Pour.{pour-length, pour-past, pour-then}
 use Rattle.output.proofs.Poured.{ended, stored}
 use Rattle.bits.specs.Bits.{bitsOf, bytesBits, filled, pack}
 use Rattle.bits.proofs.Bytes.{length-bytesBits, length-pack, filled-whole}
-use Rattle.bits.proofs.Writing.{fill, packed}
+use Rattle.bits.proofs.Writing.{fill}
 use Rattle.plate.specs.Writing.{plateSized}
 use Rattle.writer.specs.declared.Room.{Room}
 use Rattle.writer.specs.declared.Room.the-variants.{Bytes, Refused}
@@ -66,7 +63,7 @@ room-back (refused cause place) = refl
 pub room-is : (bits lent : ℕ) {r : Room} → roomAnswer (plateRoom bits lent) ≡ r → plateRoom bits lent ≡ roomIn r
 room-is bits lent e = room-back (plateRoom bits lent) ∙ ap roomIn e
 
--- the second pass gets no more bytes than a plate has, and no more than there are
+-- no more bytes than a plate has, and no more than there are
 pub room-fits : (bits lent : ℕ) {n : ℕ} → roomAnswer (plateRoom bits lent) ≡ Bytes n → (n ≡ bits / 8) × (n ≤ 2953) × (n ≤ lent)
 unfolding plateRoom
 room-fits bits lent {n} e = go (leb (bits / 8) 2953) refl (leb (bits / 8) lent) refl (room-is bits lent e)
@@ -79,26 +76,13 @@ room-fits bits lent {n} e = go (leb (bits / 8) 2953) refl (leb (bits / 8) lent) 
     go true v false w e = absurd (never e)
     go false v w f e = absurd (never e)
 
--- that part of the buffer
-pub room-part : (bits : ℕ) (buffer : List ℕ) {n : ℕ} → roomAnswer (plateRoom bits (length buffer)) ≡ Bytes n
-    → (length (take n buffer) ≡ n) × (length (take n buffer) ≤ 2953)
-room-part bits buffer {n} e =
-    let k = room-fits bits (length buffer) e in
-    let size : length (take n buffer) ≡ n = length-take-le n buffer (k .2) in
-    (size, omega (arith, k .1))
-
 -- ---- the plate in the lent buffer
 
 -- bytes
 abbrev pub Octets : List ℕ → Type 0
 Octets bs = (i : ℕ) → getD bs i 0 < 256
 
-front-octets : (a b : List ℕ) → Octets (a ++ b) → Octets a
-front-octets [] b h i = omega arith
-front-octets (x ∷ a) b h zero = h zero
-front-octets (x ∷ a) b h (suc i) = front-octets a b (λ j. h (suc j)) i
-
--- the first pass has counted r bits
+-- r bits were counted
 module _ (bs old : List Bool) {r : ℕ} {x : List Bool} (dry : (r, x) ≡ poured 0 (filled bs) old) (buffer : List ℕ) where
   pub counted : r ≡ upTo (length (pack bs) * 8)
   counted = omega (arith, ended 0 (filled bs) old r x dry, length-pack bs, filled-whole bs)
@@ -124,23 +108,3 @@ module _ (bs old : List Bool) {r : ℕ} {x : List Bool} (dry : (r, x) ≡ poured
           fits true = refl
           fits false = refl
       go false v = rw (lt-leb (length (pack bs)) 2953 (omega (arith, counted, leb-false (r / 8) 2953 v)))
-
-  -- 10, and then 11
-  pub no-room : {f : Refusal} → roomAnswer (plateRoom r (length buffer)) ≡ Refused f
-      → (refusing (f .cause) (f .place), buffer) ≡ written (plateSized (pack bs)) buffer
-  no-room e = sym (by-room ∙ ap leaves (room-is r (length buffer) e))
-
-  -- the second pass has written the bits into n bytes of the buffer
-  pub laid : {n y : ℕ} (new : List ℕ) → roomAnswer (plateRoom r (length buffer)) ≡ Bytes n
-      → (y, bytesBits new) ≡ poured 0 (filled bs) (bytesBits (take n buffer)) → Octets buffer → Octets (new ++ drop n buffer)
-      → (wrote n, new ++ drop n buffer) ≡ written (plateSized (pack bs)) buffer
-  laid {n} {y} new e f ho hn =
-      let k = room-fits r (length buffer) e in
-      let size = room-part r buffer e .0 in
-      let whole : length (pack bs) ≡ n = omega (arith, counted, k .0, k .1) in
-      let part = front-octets (take n buffer) (drop n buffer) (rw (take-append-drop n buffer) ho) in
-      let bits = stored 0 (filled bs) (bytesBits (take n buffer)) y (bytesBits new) f in
-      let fits : length (filled bs) ≤ length (take n buffer) * 8 = omega (arith, length-pack bs, filled-whole bs) in
-      let all = packed bs (take n buffer) new part (front-octets new (drop n buffer) hn) fits bits in
-      let plate : new ≡ pack bs = rw (drop-of-length-le (take n buffer) {i = length (pack bs)} (omega arith), append-nil) at all in
-      rw plate (sym (by-room ∙ ap leaves (room-is r (length buffer) e)))

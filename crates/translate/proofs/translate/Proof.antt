@@ -1,9 +1,9 @@
--- `translate` meets its contract: the refusal of the book, that of the guide, or what the two passes leave.
+-- `translate` meets its contract: the refusal of the book, that of the guide, or what the plate's writer leaves.
 use mathlib.Core.Path.{sym, _∙_}
 use borrow.Author.Needs.{needs}
 use Rattle.phrases.proofs.Answers.{answer-is}
-use Rattle.guide.proofs.Accepted.{accepted-clean}
-use Rattle.translate.proofs.Whole.{few-bytes, few-own, own-there, counts, call-book, call-guide, call-translated}
+use Rattle.assemble.proofs.Accepted.{few-bytes, accepted-listed, accepted-counted}
+use Rattle.translate.proofs.Whole.{call-book, call-guide, call-translated}
 use Rattle.translate.proofs.translate.Statement.{statement}
 use Rattle.translate.proofs.translate.Tie as tie
 
@@ -41,10 +41,9 @@ write-requires c κs =
     let own = c .before .before .before in
     let n = own .before .before .before .before in
     let f = sym (own .before .before .check .ensures) ∙ own .own .given .1 in (
-      few-bytes _ _ _ _ f,
-      (n .before .before .before .check-book .ensures .1 _ (n .enum-told .given .1), own-there _ _ _ _ f, few-own _ _ _ _ f),
-      counts _ _ _ _ f,
-      accepted-clean _ _ _ _ f,
+      few-bytes _ _ _ f,
+      accepted-listed _ _ _ f (n .before .before .before .check-book .ensures .1 _ (n .enum-told .given .1)),
+      accepted-counted _ _ _ f _,
     )
 
 returns : tie.Need-returns

@@ -43,34 +43,41 @@ fn field(byte: u8, bit: usize, size: usize) -> usize
     byte as usize / two_to(8 - bit - size) % two_to(size)
 }
 
-// The number that eight bytes are, from a byte on. Nested so, it is compiled to one load.
+// The number that four bytes are, from a byte on. Nested so, it is compiled to one load.
+fn half_word(bytes: &[u8], index: usize) -> usize
+    requires { ⌜ index + 3 < length (now bytes) ⌝ }
+    ensures { λ r. ⌜ r ≡ valueOf (take 32 (drop (index * 8) (bytesBits (now (bytes .entry))))) ⌝ }
+{
+    let three = (bytes[index] as usize * 256 + bytes[index + 1] as usize) * 256
+        + bytes[index + 2] as usize;
+    three * 256 + bytes[index + 3] as usize
+}
+
+// The number that eight bytes are, from a byte on.
 fn word(bytes: &[u8], index: usize) -> usize
     requires { ⌜ index + 7 < length (now bytes) ⌝ }
     ensures { λ r. ⌜ r ≡ valueOf (take 64 (drop (index * 8) (bytesBits (now (bytes .entry))))) ⌝ }
 {
-    let a = (bytes[index] as usize * 256 + bytes[index + 1] as usize) * 256
-        + bytes[index + 2] as usize;
-    let b = (a * 256 + bytes[index + 3] as usize) * 256 + bytes[index + 4] as usize;
-    let c = (b * 256 + bytes[index + 5] as usize) * 256 + bytes[index + 6] as usize;
-    c * 256 + bytes[index + 7] as usize
+    half_word(bytes, index) * 4294967296 + half_word(bytes, index + 4)
 }
 
-// The number that `width` bits of the bytes are, from the bit `at` on. They lie in eight bytes, which are read as one number.
+// The number that `width` bits of the bytes are, from the bit `at` on. Up to 25 bits lie in four bytes, which are read as one number: with
+// eight bytes this function would be too long to be inlined.
 pub fn read_number(bytes: &[u8], at: usize, width: usize) -> Number
     requires { ⌜ width ≤ 32 ⌝ }
     ensures { λ r. ⌜ r ≡ numberIn width (drop at (bytesBits (now (bytes .entry)))) ⌝ }
 {
     let index = at / 8;
-    if 0 < width {
-        if index + 7 < bytes.len() {
-            let unit = two_to(64 - at % 8 - width);
-            return Number::Is((word(bytes, index) / unit % two_to(width)) as u32);
+    if width <= 25 {
+        if index + 3 < bytes.len() {
+            let unit = two_to(32 - at % 8 - width);
+            return Number::Is((half_word(bytes, index) / unit % two_to(width)) as u32);
         }
     }
     read_bytes(bytes, at, width)
 }
 
-// The same, byte by byte: at the end of the bytes, or a number of no bits.
+// The same, byte by byte: a number of more bits, or at the end of the bytes.
 fn read_bytes(bytes: &[u8], at: usize, width: usize) -> Number
     requires { ⌜ width ≤ 32 ⌝ }
     ensures { λ r. ⌜ r ≡ numberIn width (drop at (bytesBits (now (bytes .entry)))) ⌝ }

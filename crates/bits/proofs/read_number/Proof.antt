@@ -23,8 +23,8 @@ sub-two-to-2 c = search needs
 two-to-requires : tie.Need-two-to-requires
 two-to-requires c κs = search needs
 
-word-requires : tie.Need-word-requires
-word-requires c κs = search needs
+half-word-requires : tie.Need-half-word-requires
+half-word-requires c κs = search needs
 
 div-t12 : tie.Need-div-t12
 div-t12 c = search needs
@@ -38,12 +38,12 @@ rem-t13 c = search needs
 cast-t14 : tie.Need-cast-t14
 cast-t14 c =
     let a = c .before .before .before .before .before .before .args in
-    record { fits = word-below (a .bytes .now) (a .at) (a .width) _ _ _ (search needs) (omega arith) (c .before .before .two-to .ensures .0) (c .two-to2 .ensures .0) (c .before .word .ensures) }
+    record { fits = word-below (a .bytes .now) (a .at) (a .width) _ _ _ (search needs) (omega arith) (c .before .before .two-to .ensures .0) (c .two-to2 .ensures .0) (c .before .half-word .ensures) }
 
 returns : tie.Need-returns
 returns c =
     let a = c .before .before .before .before .before .before .args in
-    let field = word-field (a .bytes .now) (a .at) (a .width) _ _ _ (search needs) (omega arith) (c .before .before .two-to .ensures .0) (c .two-to2 .ensures .0) (c .before .word .ensures) in
+    let field = word-field (a .bytes .now) (a .at) (a .width) _ _ _ (search needs) (omega arith) (c .before .before .two-to .ensures .0) (c .two-to2 .ensures .0) (c .before .half-word .ensures) in
     ap Is field ∙ sym (number-in (a .width) (drop (a .at) (bytesBits (a .bytes .now))) (simp (length-drop, length-bytesBits) (omega arith)))
 
 read-bytes-requires : tie.Need-read-bytes-requires
@@ -60,7 +60,7 @@ read-number-spec =
     sub-two-to
     sub-two-to-2
     two-to-requires
-    word-requires
+    half-word-requires
     div-t12
     two-to-requires-2
     rem-t13

@@ -1,169 +1,36 @@
--- `bits::word` meets its contract: each byte is 8 bits, and nothing on the way to the word is too large. Assumes nothing.
+-- `bits::word` meets its contract: four bytes, and four behind them. Assumes nothing.
+use Prim.Native.Nat.{_+_}
 use native.Mathlib.Omega.{arith}
 use borrow.Author.Needs.{needs}
-use Rattle.bits.proofs.Words.{EightBelow, eight-below, word-value}
+use Rattle.bits.proofs.Words.{half-below, word-value}
 use Rattle.bits.proofs.word.Statement.{statement}
 use Rattle.bits.proofs.word.Tie as tie
 
--- the bytes, for the bounds of the numbers on the way
-below : (c : tie.After-shared-slice-known) → EightBelow (c .before .args .bytes .now) (c .before .args .index)
-below c = eight-below (c .before .args .bytes .now) (c .before .args .index) (c .shared-slice-known .given)
-
-shared-slice-read-a : tie.Need-shared-slice-read-a
-shared-slice-read-a c = search needs
-
-cast-a : tie.Need-cast-a
-cast-a c = omega (arith, below c)
-
-mul-a : tie.Need-mul-a
-mul-a c = omega (arith, below c)
-
-add-a : tie.Need-add-a
-add-a c = search needs
-
-shared-slice-read-a-2 : tie.Need-shared-slice-read-a-2
-shared-slice-read-a-2 c = search needs
-
-cast-a-2 : tie.Need-cast-a-2
-cast-a-2 c = omega (arith, below (c .before))
-
-add-a-2 : tie.Need-add-a-2
-add-a-2 c = omega (arith, below (c .before))
-
-mul-a-2 : tie.Need-mul-a-2
-mul-a-2 c = omega (arith, below (c .before))
-
-add-a-3 : tie.Need-add-a-3
-add-a-3 c = search needs
-
-shared-slice-read-a-3 : tie.Need-shared-slice-read-a-3
-shared-slice-read-a-3 c = search needs
-
-cast-a-3 : tie.Need-cast-a-3
-cast-a-3 c = omega (arith, below (c .before .before))
-
-add-a-4 : tie.Need-add-a-4
-add-a-4 c = omega (arith, below (c .before .before))
-
-mul-b : tie.Need-mul-b
-mul-b c = omega (arith, below (c .before .before))
-
-add-b : tie.Need-add-b
-add-b c = search needs
-
-shared-slice-read-b : tie.Need-shared-slice-read-b
-shared-slice-read-b c = search needs
-
-cast-b : tie.Need-cast-b
-cast-b c = omega (arith, below (c .before .before .before))
-
-add-b-2 : tie.Need-add-b-2
-add-b-2 c = omega (arith, below (c .before .before .before))
-
-mul-b-2 : tie.Need-mul-b-2
-mul-b-2 c = omega (arith, below (c .before .before .before))
-
-add-b-3 : tie.Need-add-b-3
-add-b-3 c = search needs
-
-shared-slice-read-b-2 : tie.Need-shared-slice-read-b-2
-shared-slice-read-b-2 c = search needs
-
-cast-b-2 : tie.Need-cast-b-2
-cast-b-2 c = omega (arith, below (c .before .before .before .before))
-
-add-b-4 : tie.Need-add-b-4
-add-b-4 c = omega (arith, below (c .before .before .before .before))
-
-mul-c : tie.Need-mul-c
-mul-c c = omega (arith, below (c .before .before .before .before))
-
-add-c : tie.Need-add-c
-add-c c = search needs
-
-shared-slice-read-c : tie.Need-shared-slice-read-c
-shared-slice-read-c c = search needs
-
-cast-c : tie.Need-cast-c
-cast-c c = omega (arith, below (c .before .before .before .before .before))
-
-add-c-2 : tie.Need-add-c-2
-add-c-2 c = omega (arith, below (c .before .before .before .before .before))
-
-mul-c-2 : tie.Need-mul-c-2
-mul-c-2 c = omega (arith, below (c .before .before .before .before .before))
-
-add-c-3 : tie.Need-add-c-3
-add-c-3 c = search needs
-
-shared-slice-read-c-2 : tie.Need-shared-slice-read-c-2
-shared-slice-read-c-2 c = search needs
-
-cast-c-2 : tie.Need-cast-c-2
-cast-c-2 c = omega (arith, below (c .before .before .before .before .before .before))
-
-add-c-4 : tie.Need-add-c-4
-add-c-4 c = omega (arith, below (c .before .before .before .before .before .before))
+half-word-requires : tie.Need-half-word-requires
+half-word-requires c κs = search needs
 
 mul-result : tie.Need-mul-result
-mul-result c = omega (arith, below (c .before .before .before .before .before .before))
+mul-result c = let a = c .before .before .args in omega (arith, c .half-word .ensures, half-below (a .bytes .now) (a .index) (omega arith))
+
+add-half-word : tie.Need-add-half-word
+add-half-word c = search needs
+
+half-word-requires-2 : tie.Need-half-word-requires-2
+half-word-requires-2 c κs = search needs
 
 add-result : tie.Need-add-result
-add-result c = search needs
-
-shared-slice-read-result : tie.Need-shared-slice-read-result
-shared-slice-read-result c = search needs
-
-cast-result : tie.Need-cast-result
-cast-result c = omega (arith, below (c .before .before .before .before .before .before .before))
-
-add-result-2 : tie.Need-add-result-2
-add-result-2 c = omega (arith, below (c .before .before .before .before .before .before .before))
+add-result c =
+    let a = c .before .before .before .args in
+    let first = half-below (a .bytes .now) (a .index) (omega arith) in
+    let second = half-below (a .bytes .now) (a .index + 4) (omega arith) in
+    omega (arith, c .before .half-word .ensures, c .half-word2 .ensures, first, second)
 
 returns : tie.Need-returns
 returns c =
-    let a = c .before .before .before .before .before .before .before .before .args in
-    word-value (a .bytes .now) (a .index) (search needs) (c .shared-slice-known8 .given)
+    let a = c .before .before .before .args in
+    rw (c .before .half-word .ensures, c .half-word2 .ensures) (word-value (a .bytes .now) (a .index) (omega arith))
 
 pub word-spec : {M : Type 1} → statement M
 word-spec =
     tie.close
-    (tie.spec
-    shared-slice-read-a
-    cast-a
-    mul-a
-    add-a
-    shared-slice-read-a-2
-    cast-a-2
-    add-a-2
-    mul-a-2
-    add-a-3
-    shared-slice-read-a-3
-    cast-a-3
-    add-a-4
-    mul-b
-    add-b
-    shared-slice-read-b
-    cast-b
-    add-b-2
-    mul-b-2
-    add-b-3
-    shared-slice-read-b-2
-    cast-b-2
-    add-b-4
-    mul-c
-    add-c
-    shared-slice-read-c
-    cast-c
-    add-c-2
-    mul-c-2
-    add-c-3
-    shared-slice-read-c-2
-    cast-c-2
-    add-c-4
-    mul-result
-    add-result
-    shared-slice-read-result
-    cast-result
-    add-result-2
-    returns)
+    (tie.spec half-word-requires mul-result add-half-word half-word-requires-2 add-result returns)

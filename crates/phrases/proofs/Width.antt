@@ -47,3 +47,7 @@ width-least n w h = least-from n 0 n w (omega arith) h
 -- fewer are not enough
 pub width-more : (n w : ℕ) → 2 ^ w < n → w < width n
 width-more n w h = lt-of-not-le (λ le. omega (arith, pow-mono le, width-enough n))
+
+-- enough, and one less is not
+pub width-is : (n w : ℕ) → 2 ^ w < n → n ≤ 2 ^ suc w → width n ≡ suc w
+width-is n w more enough = omega (arith, width-more n w more, width-least n (suc w) enough)

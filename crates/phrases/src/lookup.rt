@@ -52,8 +52,10 @@ pub fn find_phrase(index: &[u32], book: &[u8], own: &[u8], count: usize, text: &
     requires { ⌜ Indexed (now index) (now book) ⌝ }
     ensures { λ r. ⌜ r ≡ foundAnswer (phrases.find (phrasesIn (now (book .entry)) (now (own .entry)) count) (now (text .entry))) ⌝ }
 {
-    if let Place::At(i) = find_line(index, book, text) {
-        return Found::InBook(i);
+    if count_of(index) != 0 {
+        if let Place::At(i) = find_line(index, book, text) {
+            return Found::InBook(i);
+        }
     }
     match find_own(own, count, text) {
         Place::At(i) => Found::InOwn(i),

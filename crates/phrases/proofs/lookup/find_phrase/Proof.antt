@@ -1,10 +1,30 @@
--- `find_phrase` meets its contract: a place in the book, else one among the own phrases.
-use mathlib.Core.Path.{sym, _∙_}
+-- `find_phrase` meets its contract: a place in the book, where it has texts, else one among the own phrases.
+use native.Mathlib.Omega.{arith}
+use mathlib.Core.Path.{_≡_, sym, _∙_}
+use mathlib.Core.Logic.{⊎-elim}
+use mathlib.Core.Option.{none}
 use borrow.Author.Needs.{needs}
-use Rattle.phrases.specs.Phrases.{find}
+use Rattle.phrases.specs.Phrases.{place, find}
+use Rattle.phrases.specs.Lookup.{bookTexts}
+use Rattle.phrases.proofs.Entries.{indexed-count}
+use Rattle.phrases.proofs.Keys.{place-absent}
 use Rattle.phrases.proofs.Answers.{place-is}
 use Rattle.phrases.proofs.lookup.find_phrase.Statement.{statement}
 use Rattle.phrases.proofs.lookup.find_phrase.Tie as tie
+
+-- the text is not in the book: it was not found there, or the book has no texts
+not-there : (k : tie.Joined1)
+    → let a = k .before .before .before .before .before .before .args in
+    place (bookTexts (a .book .now)) (a .text .now) ≡ none
+not-there k =
+    let s = k .before .before .before .before .before .before in
+    ⊎-elim
+    (λ w. place-is _ _ (sym (w .1 .ensures) ∙ w .3 .given .1))
+    (λ w. place-absent _ _ (λ j h. absurd (omega (arith, indexed-count _ _ (s .pre), k .before .count-of .ensures, w .left))))
+    (k .if1 .came)
+
+count-of-requires : tie.Need-count-of-requires
+count-of-requires c κs = search needs
 
 find-line-requires : tie.Need-find-line-requires
 find-line-requires c κs = search needs
@@ -31,21 +51,20 @@ enum-told-2 c = search needs
 returns-2 : tie.Need-returns-2
 unfolding find
 returns-2 c =
-    let b = c .before .before .before .before in
-    let line = place-is _ _ (sym (b .before .before .find-line .ensures) ∙ b .enum-told .given .1) in
-    simp (line, place-is _ _ (sym (c .before .before .before .find-own .ensures) ∙ c .before .i2 .given .1))
+    let l = c .before .before .before in
+    simp (not-there (l .before), place-is _ _ (sym (l .find-own .ensures) ∙ c .before .i2 .given .1))
 
 returns-3 : tie.Need-returns-3
 unfolding find
 returns-3 c =
-    let b = c .before .before .before in
-    let line = place-is _ _ (sym (b .before .before .find-line .ensures) ∙ b .enum-told .given .1) in
-    simp (line, place-is _ _ (sym (c .before .before .find-own .ensures) ∙ c .enum-told2 .given .1))
+    let l = c .before .before in
+    simp (not-there (l .before), place-is _ _ (sym (l .find-own .ensures) ∙ c .enum-told2 .given .1))
 
 pub find-phrase-spec : {M : Type 1} → statement M
 find-phrase-spec =
     tie.close
     (tie.spec
+    count-of-requires
     find-line-requires
     enum-known-i
     returns

@@ -1,44 +1,43 @@
--- `width_of` meets its contract: w bits number `most` phrases, and fewer bits than w do not number n.
-use Prim.Native.Nat.{_^_, _-_, _≤_, _<_}
-use native.Mathlib.Omega.{arith}
-use native.Mathlib.Nat.{two-pow-succ}
-use native.Mathlib.Numerals.{add-one}
-use mathlib.Core.Path.{_≡_}
+-- `width_of` meets its contract: each answer is enough, and one less is not.
 use borrow.Author.Needs.{needs}
-use Rattle.phrases.specs.Phrases.{width}
-use Rattle.phrases.proofs.Width.{width-least, width-more}
+use mathlib.Core.Path.{sym}
+use Rattle.phrases.proofs.Width.{width-is}
 use Rattle.phrases.proofs.widths.width_of.Statement.{statement}
 use Rattle.phrases.proofs.widths.width_of.Tie as tie
 
-abbrev Inv-loop : tie.InvT-loop
-Inv-loop n w₀ most₀ w most = (most ≡ 2 ^ w) × (w ≤ width n) × (w < most)
+width-small-requires : tie.Need-width-small-requires
+width-small-requires c κs = search needs
 
-abbrev μ-loop : tie.MeasureT-loop
-μ-loop n w₀ most₀ w most = n - most
+returns : tie.Need-returns
+returns c = search needs
 
-loop-holds : tie.Need-loop-holds Inv-loop μ-loop
-loop-holds c = search needs
+returns-2 : tie.Need-returns-2
+returns-2 c = sym (width-is _ 4 (search needs) (search needs))
 
-mul-most : tie.Need-mul-most Inv-loop μ-loop
-mul-most c = search needs
+returns-3 : tie.Need-returns-3
+returns-3 c = sym (width-is _ 5 (search needs) (search needs))
 
-add-w : tie.Need-add-w Inv-loop μ-loop
-add-w c = search needs
+returns-4 : tie.Need-returns-4
+returns-4 c = sym (width-is _ 6 (search needs) (search needs))
 
-loop-less : tie.Need-loop-less Inv-loop μ-loop
-loop-less c = search needs
+returns-5 : tie.Need-returns-5
+returns-5 c = sym (width-is _ 7 (search needs) (search needs))
 
-loop-again : tie.Need-loop-again Inv-loop μ-loop
-loop-again c =
-    let l = c .before .loop in
-    let m = width-more _ (l .w) (rw (l .inv .0) at (c .loop-test .taken)) in
-    (rw (add-one, two-pow-succ) (omega arith), omega arith, search needs)
+width-counted-requires : tie.Need-width-counted-requires
+width-counted-requires c κs = search needs
 
-returns : tie.Need-returns Inv-loop μ-loop
-returns c =
-    let l = c .before .loop in
-    omega (arith, width-least _ (l .w) (rw (l .inv .0) at (c .loop-test .left)))
+returns-6 : tie.Need-returns-6
+returns-6 c = search needs
 
 pub width-of-spec : {M : Type 1} → statement M
 width-of-spec =
-    tie.close (tie.spec Inv-loop μ-loop loop-holds mul-most add-w loop-less loop-again returns)
+    tie.close
+    (tie.spec
+    width-small-requires
+    returns
+    returns-2
+    returns-3
+    returns-4
+    returns-5
+    width-counted-requires
+    returns-6)

@@ -1,8 +1,8 @@
 -- A phrase by its place, as the code reads it.
 use Prim.Native.Nat.{ℕ, zero, suc, _-_, _≤_, _<_}
-use mathlib.Core.Path.{_≡_, refl, sym, ap, _∙_}
-use mathlib.Core.List.{List, [], _∷_}
-use mathlib.Core.Bool.{Bool, true, false}
+use mathlib.Core.Path.{_≡_, sym, ap, _∙_}
+use mathlib.Core.List.{List, []}
+use mathlib.Core.Bool.{Bool, true, false, cond}
 use native.Mathlib.Numerals.{sub-one}
 use native.Mathlib.Omega.{arith}
 use lib.ListN.{length, getD}
@@ -18,8 +18,8 @@ use Rattle.phrases.proofs.Texts.{phrase-in-own, phrase-in-book}
 use Rattle.fields.specs.declared.Field.{Field}
 use Rattle.fields.specs.declared.Field.the-variants.{Is, Refused}
 use Rattle.instructions.specs.declared.TextRead.{TextRead}
-use Rattle.plate.specs.Reading.{Place, got, Reader, number, judged, return, _>>=_}
-use Rattle.plate.specs.Plate.{phraseAt, phraseBy, phrase}
+use Rattle.plate.specs.Reading.{got, Reader, number, judged, return}
+use Rattle.plate.specs.Plate.{phraseAt}
 use Rattle.fields.specs.Places.{placeAt, fieldRead}
 use Rattle.instructions.specs.TextsAt.{textAt, textsRead, phraseOf, Lent}
 use Rattle.plate.proofs.Readers.{gives-number, gives-judged}
@@ -56,42 +56,11 @@ module _ (plate book own : List ℕ) (at : ℕ) (isOwn : Bool) (ts : List Text)
   phrase-there (Refused r) e = then-stopped _ (λ i. return (getD ts i [])) (placeAt plate at) e
 
 module _ (plate book own : List ℕ) (at count n : ℕ) (f : Field) (r : TextRead)
-    (e : fieldRead plate f ≡ judged (number (width n)) (λ i. ltb i n) Unused (placeAt plate at)) where
-  pub own-there : length (ownTexts count own) ≡ count → n ≡ count → r ≡ phraseOf f true
-      → textsRead plate book own r ≡ phraseAt (ownTexts count own) (placeAt plate at)
-  own-there whole z k =
-      let all : n ≡ length (ownTexts count own) = z ∙ sym whole in
-      rw k
-      (phrase-there plate book own at true (ownTexts count own) (λ i h. phrase-in-own book own i count (omega arith)) f (rw all at e))
-
-  pub book-there : n ≡ length (bookTexts book) → r ≡ phraseOf f false
-      → textsRead plate book own r ≡ phraseAt (bookTexts book) (placeAt plate at)
-  book-there z k = rw k (phrase-there plate book own at false (bookTexts book) (λ i h. phrase-in-book book own i h) f (rw z at e))
-
--- ---- book or own
-
-pub only-own : (book own : List Text) (p : Place) → length book ≡ 0 → phraseAt own p ≡ phrase book own p
-unfolding phrase
-only-own [] own p h = refl
-only-own (t ∷ ts) own p h = absurd (omega arith)
-
-pub only-book : (book own : List Text) (p : Place) → (length book ≡ 0 → ⊥) → length own ≡ 0 → phraseAt book p ≡ phrase book own p
-unfolding phrase
-only-book [] own p h k = absurd (h refl)
-only-book (t ∷ ts) [] p h k = refl
-only-book (t ∷ ts) (u ∷ us) p h k = absurd (omega arith)
-
-pub both : (book own : List Text) (p : Place) → (length book ≡ 0 → ⊥) → (length own ≡ 0 → ⊥)
-    → (number 1 >>= phraseBy book own) p ≡ phrase book own p
-unfolding phrase
-both [] own p h k = absurd (h refl)
-both (t ∷ ts) [] p h k = absurd (k refl)
-both (t ∷ ts) (u ∷ us) p h k = refl
-
--- the bit
-pub bit-book : (book own : List Text) (q : Place) (b : ℕ) → b ≡ 0 → phraseAt book q ≡ phraseBy book own b q
-bit-book book own q b z = rw z
-
-pub bit-own : (book own : List Text) (q : Place) (b : ℕ) → (b ≡ 0 → ⊥) → phraseAt own q ≡ phraseBy book own b q
-bit-own book own q zero h = absurd (h refl)
-bit-own book own q (suc b) h = refl
+    (e : fieldRead plate f ≡ judged (number (width n)) (λ i. ltb i n) Unused (placeAt plate at))
+    (whole : length (ownTexts count own) ≡ count) where
+  pub place-there : (isOwn : Bool) → n ≡ length (cond isOwn (ownTexts count own) (bookTexts book)) → r ≡ phraseOf f isOwn
+      → textsRead plate book own r ≡ phraseAt (cond isOwn (ownTexts count own) (bookTexts book)) (placeAt plate at)
+  place-there true z k =
+      rw k (phrase-there plate book own at true (ownTexts count own) (λ i h. phrase-in-own book own i count (omega arith)) f (rw z at e))
+  place-there false z k =
+      rw k (phrase-there plate book own at false (bookTexts book) (λ i h. phrase-in-book book own i h) f (rw z at e))

@@ -9,10 +9,12 @@ ghost use Rattle.phrases.specs.Lookup.{bookTexts, ownTexts};
 ghost use Rattle.plate.specs.Reading.{number, judged};
 ghost use Rattle.plate.specs.Plate.{phrase};
 ghost use Rattle.fields.specs.Places.{placeAt, fieldRead};
+ghost use Rattle.instructions.specs.Sources.{source, sourceRead};
 ghost use Rattle.instructions.specs.TextsAt.{phraseOf, textsRead, Lent};
 use crate::TextAt;
 use crate::TextRead;
 use causes::Cause;
+use causes::Refusal;
 use fields::Field;
 use fields::read_field;
 use fields::read_plain;
@@ -35,7 +37,50 @@ fn phrase_of(field: Field, own: bool) -> TextRead
     }
 }
 
-// A phrase: one bit for book or own, where both have phrases, and its place.
+// Which phrases a place is among: the book's or the own ones, how many they are, and the bit where the place stands.
+pub enum Source {
+    Is { own: bool, n: usize, next: usize },
+    Refused(Refusal),
+}
+
+// The source of a phrase: one bit for book or own, where both have phrases.
+fn read_source(plate: &[u8], at: usize, texts: usize, count: usize) -> Source
+    requires { ⌜ length (now plate) ≤ 2953 ⌝ }
+    ensures { λ r. ⌜ sourceRead (now (plate .entry)) r ≡ source texts count (placeAt (now (plate .entry)) at) ⌝ }
+{
+    if texts == 0 {
+        return Source::Is {
+            own: true,
+            n: count,
+            next: at,
+        };
+    }
+    if count == 0 {
+        return Source::Is {
+            own: false,
+            n: texts,
+            next: at,
+        };
+    }
+    let field = read_plain(plate, at, 1);
+    let Field::Is(bit, next) = field else {
+        return Source::Refused(field.refusal());
+    };
+    if bit == 0 {
+        return Source::Is {
+            own: false,
+            n: texts,
+            next,
+        };
+    }
+    Source::Is {
+        own: true,
+        n: count,
+        next,
+    }
+}
+
+// A phrase: its source, and its place there.
 pub fn read_phrase(
     plate: &[u8],
     at: usize,
@@ -47,19 +92,9 @@ pub fn read_phrase(
     requires { ⌜ Lent (now plate) (now index) (now book) (now own) count × (0 < getD (now index) 0 0 + count) ⌝ }
     ensures { λ r. ⌜ textsRead (now (plate .entry)) (now (book .entry)) (now (own .entry)) r ≡ phrase (bookTexts (now (book .entry))) (ownTexts count (now (own .entry))) (placeAt (now (plate .entry)) at) ⌝ }
 {
-    let texts = phrases::count_of(index);
-    if texts == 0 {
-        return phrase_of(read_place(plate, at, count), true);
-    }
-    if count == 0 {
-        return phrase_of(read_place(plate, at, texts), false);
-    }
-    let field = read_plain(plate, at, 1);
-    let Field::Is(bit, next) = field else {
-        return TextRead::Refused(field.refusal());
+    let source = read_source(plate, at, phrases::count_of(index), count);
+    let Source::Is { own, n, next } = source else {
+        return TextRead::Refused(source.refusal());
     };
-    if bit == 0 {
-        return phrase_of(read_place(plate, next, texts), false);
-    }
-    phrase_of(read_place(plate, next, count), true)
+    phrase_of(read_place(plate, next, n), own)
 }

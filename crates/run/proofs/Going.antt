@@ -15,8 +15,8 @@ use Rattle.transcript.specs.State.{State, step, start}
 use Rattle.transcript.specs.Perform.{Ending, andThen, perform, holds}
 use Rattle.transcript.specs.Machine.{machineState, endingBy, Laid, laid, performed}
 use Rattle.transcript.proofs.Natural.{Natural, then-natural, perform-natural, holds-behind}
-use Rattle.transcript.proofs.Lay.{lay-here}
-use Rattle.transcript.proofs.Follow.{lay-ended, lay-goes}
+use Rattle.machine.proofs.Lay.{lay-here}
+use Rattle.machine.proofs.Follow.{lay-ended, lay-goes}
 use Rattle.plate.specs.Program.{Instruction, statement, goto, ifSkip}
 use Rattle.plate.specs.Plate as reader
 use Rattle.plate.specs.Reading.{got}

@@ -19,15 +19,15 @@ use Rattle.transcript.specs.Statement.{Statement, input, inputs, print, printex
 use Rattle.transcript.specs.State.{TranscriptLine, asked, offered, answered, shown, ruled, fieldsOf, lineBytes, transcriptBytes, State, start, step, writeLine}
 use Rattle.transcript.specs.Perform.{Ending, goesOn, verdict, waits, outside, andThen, answer, isOption, takeAnswer, choose, perform, holds, stateOf, report}
 use Rattle.transcript.proofs.Valid.{StatementOk}
-use Rattle.transcript.proofs.Lay.{bytes-append, bytes-one}
+use Rattle.machine.proofs.Lay.{bytes-append, bytes-one}
 use Rattle.causes.specs.Answers.{made, lent}
 use Rattle.causes.specs.Answers as result
 use Rattle.causes.specs.Causes.{outcomeNumber}
 use Rattle.output.proofs.Poured.{ended}
 use Rattle.transcript.specs.declared.Performed.{Performed}
 use Rattle.transcript.specs.Machine.{laid, performed}
-use Rattle.transcript.proofs.Follow.{lay-bytes}
-use Rattle.transcript.proofs.Passes.{whole}
+use Rattle.machine.proofs.Follow.{lay-bytes}
+use Rattle.machine.proofs.Passes.{whole}
 use Rattle.phrases.specs.Lookup.{bookTexts, phrasesIn}
 use Rattle.phrases.proofs.BookValid.{book-ok}
 use Rattle.plate.specs.Program.{Instruction, statement, goto, ifSkip}
@@ -38,7 +38,7 @@ use Rattle.reader.specs.declared.Contents.{Contents}
 use Rattle.reader.specs.Holding.{instructionsAt, programAt}
 use Rattle.reader.proofs.Next.{there-length}
 use Rattle.run.specs.Run.{run}
-use Rattle.transcript.specs.Ranged.{Ranged}
+use Rattle.machine.specs.Ranged.{Ranged}
 use Rattle.run.specs.Accepted.{Accepted}
 
 -- ---- a line

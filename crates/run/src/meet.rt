@@ -51,10 +51,10 @@ pub fn meet<'a>(
         return go_on(m, at, over - 1);
     }
     match i {
-        InstructionAt::Goto { skip } => go_on(transcript::stepped(m), at, skip),
+        InstructionAt::Goto { skip } => go_on(machine::stepped(m), at, skip),
         InstructionAt::IfSkip { test, skip } => {
-            let n = transcript::stepped(m);
-            if transcript::holds(registers, test) {
+            let n = machine::stepped(m);
+            if machine::holds(registers, test) {
                 return go_on(n, at, 0);
             }
             go_on(n, at, skip)

@@ -89,7 +89,7 @@ fn produce<'a>(
     ensures { λ r. ⌜ ((registers : List ℤ) × (performed registers (now (answers .entry)) r (now (out .exit)) ≡ laid 0 (run (programAt (now (plate .entry)) (now (book .entry)) (now (own .entry)) c .instructions) 0 (start (now (answers .entry)))) (now (out .entry)))) ⌝ }
 {
     let mut registers = [0i32; 32];
-    let m = transcript::fresh();
+    let m = machine::fresh();
     let begun = Performed {
         machine: m,
         outcome: Outcome::End,
@@ -124,10 +124,10 @@ pub fn write<'a>(
     requires { ⌜ Accepted (now plate) (now index) (now book) (now own) c ⌝ }
     ensures { λ r. ⌜ (ranAnswer r, now (transcript .exit)) ≡ lent (made (report (run (programAt (now (plate .entry)) (now (book .entry)) (now (own .entry)) c .instructions) 0 (start (now (answers .entry)))))) (now (transcript .entry)) ⌝ }
 {
-    transcript::see_answers(answers);
+    machine::see_answers(answers);
     let n = c.instructions;
     if n * 640 <= transcript.len() {
-        return transcript::report_of(produce(plate, index, book, own, c, answers, transcript));
+        return machine::report_of(produce(plate, index, book, own, c, answers, transcript));
     }
     let p = produce(plate, index, book, own, c, answers, &mut []);
     let length = p.end;
@@ -137,5 +137,5 @@ pub fn write<'a>(
             place: 0,
         });
     }
-    transcript::report_of(produce(plate, index, book, own, c, answers, transcript))
+    machine::report_of(produce(plate, index, book, own, c, answers, transcript))
 }

@@ -41,7 +41,7 @@ fn put_options<'a>(
             return end;
         };
         let characters = spell(plate, text);
-        end = transcript::put_option(out, end, text_of(index, book, own, &characters, text));
+        end = transcript_lines::put_option(out, end, text_of(index, book, own, &characters, text));
         place = next;
         left -= 1;
     }
@@ -64,9 +64,9 @@ fn offer<'a>(
     requires { ⌜ Lent (now plate) (now index) (now book) (now own) count × Offers (now plate) (now book) (now own) count options bit ⌝ }
     ensures { λ r. ⌜ (r, now (out .exit)) ≡ poured at (lineBytes (offered (now (text .entry)) (textsAt (now (plate .entry)) (now (book .entry)) (now (own .entry)) count options bit))) (now (out .entry)) ⌝ }
 {
-    let end = transcript::put_offer(out, at, text);
+    let end = transcript_lines::put_offer(out, at, text);
     let end = put_options(plate, index, book, own, count, options, bit, out, end);
-    transcript::put_end(out, end)
+    transcript_lines::put_end(out, end)
 }
 
 // The text of a statement. Nothing asks it of a goto or an if.
@@ -113,7 +113,7 @@ pub fn perform<'a>(
     let text = text_of(index, book, own, &characters, place);
     match i {
         InstructionAt::Input { register, text: _ } => {
-            transcript::ask(out, at, registers, register, text, answers, m)
+            statements::ask(out, at, registers, register, text, answers, m)
         }
         InstructionAt::Inputs {
             register,
@@ -122,9 +122,9 @@ pub fn perform<'a>(
             bit,
         } => {
             let end = offer(plate, index, book, own, count, text, options, bit, out, at);
-            transcript::choose(out, end, registers, register, options, answers, m)
+            statements::choose(out, end, registers, register, options, answers, m)
         }
-        InstructionAt::Print { text: _ } => transcript::show(out, at, text, m),
-        _ => transcript::rule(out, at, text, m),
+        InstructionAt::Print { text: _ } => statements::show(out, at, text, m),
+        _ => statements::rule(out, at, text, m),
     }
 }

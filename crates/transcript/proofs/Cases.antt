@@ -1,4 +1,5 @@
--- Worked by hand: each OP below, at and above its constant with both signs; each transcript line; what each statement does.
+-- Worked by hand: each OP below, at and above its constant with both signs; each transcript line; what each
+-- statement does; the register that a test looks at.
 use Prim.Native.Nat.{ℕ}
 use mathlib.Core.Path.{_≡_, refl}
 use mathlib.Core.List.{List, [], _∷_, map}
@@ -8,6 +9,7 @@ use lib.IntN.{ℤ, pos, negsuc}
 use Rattle.text.specs.Quoted.{bytes}
 use Rattle.text.specs.Parts.{join}
 use Rattle.text.specs.Number.{digits, decimal}
+use Rattle.transcript.specs.declared.Test.{Test}
 use Rattle.transcript.specs.declared.Op.{Op}
 use Rattle.transcript.specs.declared.Op.the-variants.{Eq, Ne, Lt, Le, Gt, Ge}
 use Rattle.transcript.specs.Statement.{Statement, input, inputs, print, printex, compares}
@@ -22,7 +24,7 @@ use Rattle.transcript.specs.State.{
   lineBytes,
   transcriptBytes,
 }
-use Rattle.transcript.specs.Perform.{Ending, goesOn, verdict, waits, outside, perform}
+use Rattle.transcript.specs.Perform.{Ending, goesOn, verdict, waits, outside, perform, holds}
 
 -- whether each OP, eq to ge, holds
 abbrev verdicts : ℤ → ℤ → List Bool
@@ -94,3 +96,12 @@ pub statements :
     ∷ []
 unfolding perform start
 statements = refl
+
+-- whether register r has the value 5, as an if tests it
+abbrev fiveIn : ℕ → Test
+fiveIn r = record { register = r; op = Eq; constant = pos 5 }
+
+-- with 5 in register 3
+pub tests : map (λ (r : ℕ). holds (fiveIn r) (after (set zeros 3 (pos 5)) [] 1 [])) (0 ∷ 3 ∷ 4 ∷ []) ≡ false ∷ true ∷ false ∷ []
+unfolding holds
+tests = refl

@@ -4,11 +4,4 @@ pub mod Endings
 pub mod Steps
 pub mod Waiting
 pub mod Natural
-pub mod Lay
-pub mod Follow
 pub mod Offers
-pub mod Answers
-pub mod Options
-pub mod Performs
-pub mod Passes
-pub mod Ranges

@@ -4,4 +4,3 @@ pub mod Perform
 pub mod Waiting
 pub mod Machine
 pub mod Offered
-pub mod Ranged

@@ -1,31 +1,7 @@
-// What walk and run share: the machine, what one statement does to it, the test of an if, and the lines of the transcript.
-// A statement takes the machine by value and returns it, with the outcome and the place where the transcript ends; the registers are lent
-// to it. Its contract says the whole answer, the registers and the whole buffer by `perform` (specs/Perform.antt): a line is stored as far
-// as the buffer goes, and counted to its end. A C line is written in pieces, one for each option, and `choose` then takes the answer.
-// Any text, any answers and any buffer will do. A register is below 32, and one step more must still fit a 64-bit number.
-mod compare;
-mod lines;
-mod report;
-mod statements;
-
+// What walk and run share: the statements, the state, what one statement does, the test of an if, and the lines of the transcript.
+// The definitions are in specs/ (Perform.antt says what a statement does), their laws and worked cases in proofs/. The types are those of the
+// code in transcript_lines, machine and statements, whose contracts say what it does by these definitions.
 use causes::Outcome;
-pub use compare::compares;
-pub use compare::holds;
-pub use lines::put_answered;
-pub use lines::put_asked;
-pub use lines::put_end;
-pub use lines::put_offer;
-pub use lines::put_option;
-pub use lines::put_ruled;
-pub use lines::put_shown;
-pub use report::report_of;
-pub use report::see_answers;
-pub use statements::ask;
-pub use statements::choose;
-pub use statements::fresh;
-pub use statements::rule;
-pub use statements::show;
-pub use statements::stepped;
 
 // How an if compares a register with its constant.
 pub enum Op {

@@ -14,8 +14,8 @@ use Rattle.transcript.specs.declared.Performed.{Performed}
 use Rattle.transcript.specs.State.{State}
 use Rattle.transcript.specs.Perform.{Ending, goesOn, verdict, waits, outside, andThen, stateOf, outcomeOf}
 use Rattle.transcript.specs.Machine.{machineState, cleared, clearedEnding, laid, performed}
-use Rattle.transcript.proofs.Lay.{lay-here}
-use Rattle.transcript.proofs.Follow.{lay-outcome, lay-machine, lay-ended, lay-goes}
+use Rattle.machine.proofs.Lay.{lay-here}
+use Rattle.machine.proofs.Follow.{lay-outcome, lay-machine, lay-ended, lay-goes}
 use Rattle.lines.specs.declared.Form.the-variants.{Guide as aGuide}
 use Rattle.lines.specs.Line.{Line}
 use Rattle.lines.specs.Clean.{Clean}

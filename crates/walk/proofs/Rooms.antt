@@ -24,10 +24,10 @@ use Rattle.transcript.specs.State.{TranscriptLine, asked, offered, answered, sh
 use Rattle.transcript.specs.Perform.{Ending, goesOn, verdict, waits, outside, takeAnswer, isOption, choose, perform, holds, stateOf, report}
 use Rattle.transcript.specs.Perform as perform
 use Rattle.transcript.specs.Machine.{Laid, laid, performed}
-use Rattle.transcript.proofs.Performs.{firstLine}
-use Rattle.transcript.proofs.Lay.{bytes-append, bytes-one}
-use Rattle.transcript.proofs.Follow.{lay-bytes}
-use Rattle.transcript.proofs.Passes.{whole}
+use Rattle.statements.proofs.Performs.{firstLine}
+use Rattle.machine.proofs.Lay.{bytes-append, bytes-one}
+use Rattle.machine.proofs.Follow.{lay-bytes}
+use Rattle.machine.proofs.Passes.{whole}
 use Rattle.lines.specs.declared.Form.{Form}
 use Rattle.lines.specs.declared.Form.the-variants.{Guide as aGuide}
 use Rattle.lines.specs.Line.{Line, phrase, says, ifLine, elseLine, fiLine, gotoLine, ifSkipLine, faulty, lineOf, unended, linesIn}
@@ -36,8 +36,8 @@ use Rattle.lines.proofs.FieldsRead.{ReadAs, as-fault, as-phrase, as-input, as-i
 use Rattle.lines.proofs.FieldsRead.{as-if, as-else, as-fi, as-goto, as-if-skip, line-read-as}
 use Rattle.guide.specs.Lines.{roleOf, inBlock, beginsBy, firstRole, stops, openBehind, pass, bodyLines, linesAt}
 use Rattle.walk.specs.Descend.{Left, Walker, here, follow, next, atElse, behindTrue, leaveTrue, leaveElse, elseBlock, walkIf}
-use Rattle.transcript.specs.Ranged.{Ranged}
-use Rattle.transcript.proofs.Ranges.{ranged-rest}
+use Rattle.machine.specs.Ranged.{Ranged}
+use Rattle.machine.proofs.Ranges.{ranged-rest}
 use Rattle.walk.specs.Descend.{statementLine, statementWith, blockWith, descend, walkText}
 
 -- ---- what lines and answers still write

@@ -87,8 +87,8 @@ fn statement(
             place: h.next,
         };
     };
-    let n = transcript::stepped(m);
-    if transcript::holds(registers, test) {
+    let n = machine::stepped(m);
+    if machine::holds(registers, test) {
         return true_block(guide, answers, registers, out, left, h.next, at, n);
     }
     no_block(guide, answers, registers, out, left, h.next, at, n)

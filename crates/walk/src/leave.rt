@@ -52,7 +52,7 @@ pub fn leave_true(guide: &[u8], a: usize, end: usize, m: Machine) -> Walked
     let role = h.role;
     if guide::is_else(role) {
         let f = guide::role_at(guide, guide::pass_over(guide, h.next));
-        let n = transcript::stepped(m);
+        let n = machine::stepped(m);
         return here(n, end, f.next);
     }
     here(m, end, h.next)

@@ -28,7 +28,7 @@ fn produce(guide: &[u8], answers: &[i32], out: &mut [u8]) -> Performed
         guide.len() + 2,
         0,
         0,
-        transcript::fresh(),
+        machine::fresh(),
     );
     w.left
 }
@@ -41,8 +41,8 @@ pub fn write(guide: &[u8], answers: &[i32], transcript: &mut [u8]) -> Ran
 {
     if answers.len() <= 65536 {
         if guide.len() + 14 * answers.len() <= transcript.len() {
-            transcript::see_answers(answers);
-            return transcript::report_of(produce(guide, answers, transcript));
+            machine::see_answers(answers);
+            return machine::report_of(produce(guide, answers, transcript));
         }
     }
     let length = produce(guide, answers, &mut []).end;
@@ -52,5 +52,5 @@ pub fn write(guide: &[u8], answers: &[i32], transcript: &mut [u8]) -> Ran
             place: 0,
         });
     }
-    transcript::report_of(produce(guide, answers, transcript))
+    machine::report_of(produce(guide, answers, transcript))
 }

@@ -28,9 +28,9 @@ fn offer(
     ensures { λ r. ⌜ r .machine .steps ≡ m .steps + 1 ⌝ }
 {
     let a = text::part_start(line, b',', 2);
-    let end = transcript::put_offer(out, at, &line[a..]);
-    let end = transcript::put_end(out, end);
-    transcript::choose(out, end, registers, register, options, answers, m)
+    let end = transcript_lines::put_offer(out, at, &line[a..]);
+    let end = transcript_lines::put_end(out, end);
+    statements::choose(out, end, registers, register, options, answers, m)
 }
 
 // The statement of a line with this head.
@@ -48,7 +48,7 @@ pub fn perform(
     ensures { λ r. ⌜ r .machine .steps ≡ m .steps + 1 ⌝ }
 {
     match head {
-        Head::Input { register } => transcript::ask(
+        Head::Input { register } => statements::ask(
             out,
             at,
             registers,
@@ -60,7 +60,7 @@ pub fn perform(
         Head::Inputs { register, options } => {
             offer(line, register, options, answers, registers, out, at, m)
         }
-        Head::Print => transcript::show(out, at, text::part(line, b',', 1), m),
-        _ => transcript::rule(out, at, text::part(line, b',', 1), m),
+        Head::Print => statements::show(out, at, text::part(line, b',', 1), m),
+        _ => statements::rule(out, at, text::part(line, b',', 1), m),
     }
 }

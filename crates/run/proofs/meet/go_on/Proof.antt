@@ -2,7 +2,7 @@
 use borrow.Author.Needs.{needs}
 use native.Mathlib.Omega.{arith}
 use Rattle.causes.specs.declared.Outcome.the-variants.{End}
-use Rattle.transcript.proofs.Lay.{lay-here}
+use Rattle.machine.proofs.Lay.{lay-here}
 use Rattle.run.proofs.meet.go_on.Statement.{statement}
 use Rattle.run.proofs.meet.go_on.Tie as tie
 

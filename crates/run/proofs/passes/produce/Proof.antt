@@ -1,7 +1,7 @@
 -- `produce` meets its contract: it is the run from the start, over all instructions.
 use mathlib.Core.Path.{refl}
 use native.Mathlib.Omega.{arith}
-use Rattle.transcript.proofs.Passes.{fresh-steps}
+use Rattle.machine.proofs.Passes.{fresh-steps}
 use Rattle.run.proofs.Going.{lay-program}
 use borrow.Author.Needs.{needs}
 use Rattle.run.proofs.passes.produce.Statement.{statement}

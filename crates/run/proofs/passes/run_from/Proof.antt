@@ -6,7 +6,7 @@ use native.Mathlib.Omega.{arith}
 use lib.ListN.{length}
 use Rattle.causes.specs.declared.Outcome.the-variants.{End}
 use Rattle.transcript.specs.Machine.{machineState, laid}
-use Rattle.transcript.proofs.Follow.{not-end}
+use Rattle.machine.proofs.Follow.{not-end}
 use Rattle.run.specs.Run.{run}
 use Rattle.run.specs.Accepted.{instructionsFrom, Continues}
 use Rattle.run.proofs.Accepting.{accepted-meets}

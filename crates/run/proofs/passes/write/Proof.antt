@@ -1,6 +1,6 @@
 -- `write` meets its contract: straight into a buffer that is long enough; else 11 where it is too short, or the whole transcript.
 use native.Mathlib.Omega.{arith}
-use Rattle.transcript.proofs.Passes.{too-short}
+use Rattle.machine.proofs.Passes.{too-short}
 use borrow.Author.Needs.{needs}
 use Rattle.run.proofs.Short.{straight, second}
 use Rattle.run.proofs.passes.write.Statement.{statement}

@@ -1,7 +1,7 @@
 -- `perform` meets its contract, by cases on the instruction.
 use mathlib.Core.Path.{refl, ap}
 use native.Mathlib.Omega.{arith}
-use Rattle.transcript.proofs.Performs.{lay-offered}
+use Rattle.statements.proofs.Performs.{lay-offered}
 use Rattle.instructions.specs.TextsAt.{instructionAt}
 use Rattle.run.specs.Says.{statementText, textsAt}
 use Rattle.run.proofs.Offering.{options-count}

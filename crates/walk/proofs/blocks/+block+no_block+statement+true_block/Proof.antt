@@ -34,8 +34,8 @@ use Rattle.guide.proofs.role_at.Reads as role-at-reads
 use Rattle.guide.proofs.pass_over.Reads as pass-over-reads
 use Rattle.guide.proofs.begins.Reads as begins-reads
 use Rattle.guide.proofs.is_else.Reads as is-else-reads
-use Rattle.transcript.proofs.holds.Reads as holds-reads
-use Rattle.transcript.proofs.stepped.Reads as stepped-reads
+use Rattle.machine.proofs.holds.Reads as holds-reads
+use Rattle.machine.proofs.stepped.Reads as stepped-reads
 use Rattle.walk.proofs.leave.goes_on.Reads as goes-on-reads
 use Rattle.walk.proofs.leave.here.Reads as here-reads
 use Rattle.walk.proofs.leave.leave_else.Reads as leave-else-reads

@@ -1,6 +1,6 @@
 -- `produce` meets its contract: it is the walk from the start, over all lines.
 use native.Mathlib.Omega.{arith}
-use Rattle.transcript.proofs.Passes.{fresh-steps}
+use Rattle.machine.proofs.Passes.{fresh-steps}
 use Rattle.walk.proofs.Whole.{text-laid}
 use borrow.Author.Needs.{needs}
 use Rattle.walk.proofs.passes.produce.Statement.{statement}

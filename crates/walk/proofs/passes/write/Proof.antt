@@ -1,6 +1,6 @@
 -- `write` meets its contract: the whole transcript where the buffer is surely long enough; else 11 where it is too short, and else the whole.
 use native.Mathlib.Omega.{arith}
-use Rattle.transcript.proofs.Passes.{too-short}
+use Rattle.machine.proofs.Passes.{too-short}
 use Rattle.walk.proofs.Rooms.{text-fits, text-ends, text-written}
 use borrow.Author.Needs.{needs}
 use Rattle.walk.proofs.passes.write.Statement.{statement}

@@ -3,7 +3,7 @@ use Prim.Native.Nat.{_<_, _≤_}
 use native.Mathlib.Omega.{arith}
 use mathlib.Core.Path.{ap}
 use lib.ListN.{length}
-use Rattle.transcript.proofs.Performs.{lay-offered}
+use Rattle.statements.proofs.Performs.{lay-offered}
 use Rattle.walk.proofs.Options.{question-there, write-line}
 use borrow.Author.Needs.{needs}
 use Rattle.walk.proofs.perform.offer.Statement.{statement}

@@ -1,0 +1,4 @@
+pub mod Lay
+pub mod Follow
+pub mod Passes
+pub mod Ranges

@@ -9,7 +9,7 @@ use Rattle.transcript.specs.State.{State, step, start}
 use Rattle.transcript.specs.Perform.{goesOn, andThen, perform, holds, report}
 use Rattle.transcript.proofs.Endings.{join, then-nothing}
 use Rattle.guide.specs.Block.{Block, empty, does, ifThen, ifElse}
-use Rattle.walk.specs.Walk.{walk, leave}
+use Rattle.walking.specs.Walk.{walk, leave}
 use Rattle.plate.specs.Program.{Instruction, goto}
 use Rattle.run.specs.Run.{run}
 use Rattle.run.proofs.Passing.{pass-all, pass-suc}

@@ -18,8 +18,8 @@ use Rattle.plate.specs.Writing.{plateBytes, plateSized}
 use Rattle.plate.specs.Plate.{plateProgram}
 use Rattle.plate.proofs.RoundTrip.{written-read}
 use Rattle.plate.proofs.Sized.{sized-made}
-use Rattle.walk.specs.Call.{walked, walkCall}
-use Rattle.walk.proofs.Waits.{walk-waits}
+use Rattle.walking.specs.Call.{walked, walkCall}
+use Rattle.walking.proofs.Waits.{walk-waits}
 use Rattle.run.specs.Run.{run}
 use Rattle.run.specs.Call.{ran, runCall}
 use Rattle.run.proofs.Steps.{run-steps}

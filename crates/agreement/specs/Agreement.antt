@@ -16,8 +16,8 @@ use Rattle.transcript.specs.Waiting.{Unanswered}
 use Rattle.guide.specs.Guide.{Guide, guideOf}
 use Rattle.plate.specs.Program.{Program}
 use Rattle.plate.specs.Plate.{plateProgram}
-use Rattle.walk.specs.Walk.{walk}
-use Rattle.walk.specs.Call.{walkCall}
+use Rattle.walking.specs.Walk.{walk}
+use Rattle.walking.specs.Call.{walkCall}
 use Rattle.run.specs.Call.{runCall}
 
 -- the walk of a guide on a list of answers

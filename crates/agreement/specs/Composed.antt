@@ -6,7 +6,7 @@ use lib.Dec.{leb}
 use lib.IntN.{ℤ}
 use Rattle.causes.specs.Answers.{Answer, wrote, ended, refusal, refusing}
 use Rattle.causes.specs.declared.Cause.the-variants.{TooShort}
-use Rattle.walk.specs.Call.{walkCall}
+use Rattle.walking.specs.Call.{walkCall}
 use Rattle.run.specs.Call.{scratchNumbers}
 use Rattle.translate.specs.Call.{translateCall}
 

@@ -5,7 +5,7 @@ use lib.ListN.{length, replicate}
 use Rattle.text.specs.Quoted.{bytes}
 use Rattle.causes.specs.Answers.{wrote}
 use Rattle.translate.specs.Call.{translateCall}
-use Rattle.walk.specs.Call.{walkCall}
+use Rattle.walking.specs.Call.{walkCall}
 use Rattle.cases.specs.Row.{Row, hex, times, numbered, refuses, writes, fits, guideRefused, meets}
 
 -- a print line with a text of n bytes

@@ -5,7 +5,7 @@ use lib.ListN.{length}
 use lib.IntN.{ℤ, pos, negsuc}
 use Rattle.causes.specs.Answers.{wrote, ended, refusal}
 use Rattle.text.specs.Quoted.{bytes}
-use Rattle.walk.specs.Call.{walkCall}
+use Rattle.walking.specs.Call.{walkCall}
 use Rattle.run.specs.Call.{runCall}
 use Rattle.translate.specs.Call.{translation}
 use Rattle.cases.specs.Row.{Row, _gives_, refuses, fits, meets, bytesMade, untouched}

@@ -18,8 +18,8 @@ use Rattle.listing.specs.Calls as ListingCalls
 use Rattle.listing.specs.Listing as Listing
 use Rattle.guide.specs.Block as GuideBlock
 use Rattle.guide.specs.Guide as Guide
-use Rattle.walk.specs.Call as WalkCall
-use Rattle.walk.specs.Walk as Walk
+use Rattle.walking.specs.Call as WalkCall
+use Rattle.walking.specs.Walk as Walk
 use Rattle.run.specs.Call as RunCall
 use Rattle.run.specs.Run as Run
 use Rattle.translate.specs.Call as TranslateCall

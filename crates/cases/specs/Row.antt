@@ -11,7 +11,7 @@ use Rattle.causes.specs.Answers.{Result, made, refused, Answer, wrote, ended, r
 use Rattle.bits.specs.Bits.{pack}
 use Rattle.text.specs.Parts.{LF}
 use Rattle.text.specs.Number.{decimalℕ}
-use Rattle.walk.specs.Call.{walkCall}
+use Rattle.walking.specs.Call.{walkCall}
 use Rattle.run.specs.Call.{runCall}
 use Rattle.listing.specs.Calls.{readPlateCall}
 use Rattle.translate.specs.Call.{translation, translateCall}

@@ -6,7 +6,7 @@ ghost use lib.ListN.{length};
 ghost use Rattle.causes.specs.Answers.{writtenAnswer, ranAnswer};
 ghost use Rattle.translate.specs.Call.{translateCall};
 ghost use Rattle.listing.specs.Calls.{writePlateCall, readPlateCall};
-ghost use Rattle.walk.specs.Call.{walkCall};
+ghost use Rattle.walking.specs.Call.{walkCall};
 ghost use Rattle.run.specs.Call.{runCall};
 ghost use Rattle.doorplate.specs.Values.{writtenValues, ranValues, WrittenIs, RanIs};
 

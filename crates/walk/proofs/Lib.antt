@@ -1,10 +1,3 @@
-pub mod Cases
-pub mod Waits
-pub mod Adding
-pub mod Leaving
-pub mod LineStatements
-pub mod Options
-pub mod Cycle
 pub mod WalkLines
 pub mod Rooms
 pub mod Whole

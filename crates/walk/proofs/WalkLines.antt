@@ -13,10 +13,10 @@ use Rattle.guide.specs.declared.Role.the-variants.{Statement, If, Else, Fi, Not
 use Rattle.guide.specs.Block.{Block, empty, does, ifThen, ifElse, parsed, parse}
 use Rattle.guide.specs.Lines.{firstRole, beginsBy, stops, pass, bodyLines}
 use Rattle.guide.proofs.Blocks.{blockLines, parse-sound}
-use Rattle.walk.specs.Walk.{walk, leave}
-use Rattle.walk.specs.Descend.{Left, Walker, here, follow, next, atElse, leaveTrue, leaveElse, elseBlock, walkIf, statementWith, blockWith, descend}
-use Rattle.walk.proofs.Leaving.{follow-here}
-use Rattle.walk.proofs.Cycle.{descend-ends}
+use Rattle.walking.specs.Walk.{walk, leave}
+use Rattle.walk_steps.specs.Descend.{Left, Walker, here, follow, next, atElse, leaveTrue, leaveElse, elseBlock, walkIf, statementWith, blockWith, descend}
+use Rattle.walk_steps.proofs.Leaving.{follow-here}
+use Rattle.walk_steps.proofs.Cycle.{descend-ends}
 
 -- ---- a block passed over
 

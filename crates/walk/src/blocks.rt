@@ -1,14 +1,14 @@
 // A block and a statement, which call each other: a block runs its statements in order, and an if statement runs one of its blocks. So the
 // calls nest as deep as the ifs do.
-use crate::Walked;
-use crate::leave::goes_on;
-use crate::leave::here;
-use crate::leave::leave_else;
-use crate::leave::leave_true;
-use crate::perform::perform;
 use guide::Here;
 use lines::Head;
 use transcript::Machine;
+use walk_steps::Walked;
+use walk_steps::goes_on;
+use walk_steps::here;
+use walk_steps::leave_else;
+use walk_steps::leave_true;
+use walk_steps::perform;
 ghost use mathlib.Core.Path.{_≡_};
 ghost use mathlib.Core.Bool.{true, false};
 ghost use mathlib.Core.List.{_∷_};
@@ -19,8 +19,8 @@ ghost use Rattle.lines.specs.Line.{lineOf};
 ghost use Rattle.lines.specs.Clean.{Clean};
 ghost use Rattle.transcript.specs.Machine.{machineState};
 ghost use Rattle.guide.specs.Lines.{beginsBy, linesAt, lineText, Stands};
-ghost use Rattle.walk.specs.Descend.{walkIf, statementWith, descend};
-ghost use Rattle.walk.specs.Leaves.{Leaves, Paced};
+ghost use Rattle.walk_steps.specs.Descend.{walkIf, statementWith, descend};
+ghost use Rattle.walk_steps.specs.Leaves.{Leaves, Paced};
 
 // The block that begins at a, up to its else, its fi or the end; `lines` is more than its lines.
 pub fn block(

@@ -1,13 +1,11 @@
 // The walker: runs a guide from its text.
-// specs/Walk.antt says what the walk of a block is; specs/Call.antt what the call answers and leaves in the lent buffer.
+// crate walking says in its specs/Walk.antt what the walk of a block is, and in its specs/Call.antt what the call answers and leaves in the lent
+// buffer; crate walk_steps performs one line.
 // The book is checked, then the guide, and a refusal leaves the buffer as it was. The walk goes from line to line of the guide's text, as
-// specs/Descend.antt says: `block` and `statement` call each other, and a block that is not walked is passed over. It is made once, on the
+// walk_steps/specs/Descend.antt says: `block` and `statement` call each other, and a block that is not walked is passed over. It is made once, on the
 // lent buffer, where that is surely long enough; else twice: first on no buffer, to learn the transcript's length.
-
 mod blocks;
-mod leave;
 mod passes;
-mod perform;
 
 use causes::Cause;
 use causes::Ran;
@@ -15,16 +13,9 @@ use causes::Refusal;
 use lines::Checked;
 use lines::Form;
 use phrases::Book;
-use transcript::Performed;
 ghost use mathlib.Core.Path.{_≡_};
 ghost use Rattle.causes.specs.Answers.{ranAnswer};
-ghost use Rattle.walk.specs.Call.{walkCall};
-
-// What a block leaves: the machine, the outcome and the transcript's end, and the place of the lines behind it.
-pub struct Walked {
-    pub left: Performed,
-    pub place: usize,
-}
+ghost use Rattle.walking.specs.Call.{walkCall};
 
 // A guide is walked on the answers, and its transcript written.
 pub fn walk(guide: &[u8], book: &[u8], answers: &[i32], transcript: &mut [u8]) -> Ran

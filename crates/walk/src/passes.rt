@@ -12,7 +12,7 @@ ghost use Rattle.transcript.specs.Perform.{report};
 ghost use Rattle.transcript.specs.Machine.{laid, performed};
 ghost use Rattle.lines.specs.declared.Form.the-variants.{Guide as aGuide};
 ghost use Rattle.lines.specs.Clean.{Clean};
-ghost use Rattle.walk.specs.Descend.{walkText};
+ghost use Rattle.walk_steps.specs.Descend.{walkText};
 
 // The walk over a guide's lines, with registers that are all 0 at first: the buffer takes as much of the transcript as it has room for.
 fn produce(guide: &[u8], answers: &[i32], out: &mut [u8]) -> Performed

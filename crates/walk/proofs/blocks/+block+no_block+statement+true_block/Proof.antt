@@ -10,11 +10,11 @@ use Rattle.lines.specs.Clean.{Clean}
 use Rattle.transcript.specs.Machine.{machineState}
 use Rattle.guide.specs.Lines.{beginsBy, linesAt}
 use Rattle.guide.proofs.Reading.{begins-first, begins-further}
-use Rattle.walk.specs.Descend.{descend}
-use Rattle.walk.proofs.Leaving.{leaves-as, leaves-performed, paced-here}
-use Rattle.walk.proofs.LineStatements.{no-if, line-says, line-performs, if-test, if-walks}
-use Rattle.walk.proofs.Cycle.{Rest, block-none, block-ends, block-ended, block-goes}
-use Rattle.walk.proofs.Cycle.{true-ended, true-goes, no-else, else-ended, else-goes}
+use Rattle.walk_steps.specs.Descend.{descend}
+use Rattle.walk_steps.proofs.Leaving.{leaves-as, leaves-performed, paced-here}
+use Rattle.walk_steps.proofs.LineStatements.{no-if, line-says, line-performs, if-test, if-walks}
+use Rattle.walk_steps.proofs.Cycle.{Rest, block-none, block-ends, block-ended, block-goes}
+use Rattle.walk_steps.proofs.Cycle.{true-ended, true-goes, no-else, else-ended, else-goes}
 use borrow.Fn.Kinds.{In}
 use borrow.Fn.PlainCycle.{Measures, is, falls, and}
 use Rattle.walk.proofs.blocks.block.Reads as block
@@ -36,11 +36,11 @@ use Rattle.guide.proofs.begins.Reads as begins-reads
 use Rattle.guide.proofs.is_else.Reads as is-else-reads
 use Rattle.machine.proofs.holds.Reads as holds-reads
 use Rattle.machine.proofs.stepped.Reads as stepped-reads
-use Rattle.walk.proofs.leave.goes_on.Reads as goes-on-reads
-use Rattle.walk.proofs.leave.here.Reads as here-reads
-use Rattle.walk.proofs.leave.leave_else.Reads as leave-else-reads
-use Rattle.walk.proofs.leave.leave_true.Reads as leave-true-reads
-use Rattle.walk.proofs.perform.perform.Reads as perform-reads
+use Rattle.walk_steps.proofs.goes_on.Reads as goes-on-reads
+use Rattle.walk_steps.proofs.here.Reads as here-reads
+use Rattle.walk_steps.proofs.leave_else.Reads as leave-else-reads
+use Rattle.walk_steps.proofs.leave_true.Reads as leave-true-reads
+use Rattle.walk_steps.proofs.perform.Reads as perform-reads
 use Rattle.walk.proofs.blocks.+block+no_block+statement+true_block.{statement}
 use Rattle.walk.proofs.blocks.+block+no_block+statement+true_block.Tie.{close}
 

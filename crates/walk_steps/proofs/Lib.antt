@@ -1,0 +1,5 @@
+pub mod Adding
+pub mod Leaving
+pub mod LineStatements
+pub mod Options
+pub mod Cycle

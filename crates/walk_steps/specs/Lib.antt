@@ -1,0 +1,3 @@
+pub mod Descend
+pub mod Leaves
+pub mod Says

@@ -11,8 +11,8 @@ use Rattle.transcript.proofs.Endings.{join, then-nothing}
 use Rattle.guide.specs.Block.{Block, empty, does, ifThen, ifElse}
 use Rattle.walking.specs.Walk.{walk, leave}
 use Rattle.plate.specs.Program.{Instruction, goto}
-use Rattle.run.specs.Run.{run}
-use Rattle.run.proofs.Passing.{pass-all, pass-suc}
+use Rattle.running.specs.Run.{run}
+use Rattle.running.proofs.Passing.{pass-all, pass-suc}
 use Rattle.translate.specs.Translation.{translateBlock}
 
 -- a block's instructions, with any others behind them

@@ -15,7 +15,7 @@ use Rattle.causes.specs.declared.Written.{Written}
 use Rattle.causes.specs.declared.Written.the-variants.{Done, Refused}
 use Rattle.causes.proofs.Lent.{written-front}
 use Rattle.walking.specs.Call.{walkCall}
-use Rattle.run.specs.Call.{scratchNumbers, ran, runCall}
+use Rattle.running.specs.Call.{scratchNumbers, ran, runCall}
 use Rattle.translate.specs.Call.{translation, translateCall}
 use Rattle.agreement.specs.Agreement.{Agreement}
 use Rattle.agreement.specs.Composed.{translateThenRun}

@@ -20,9 +20,9 @@ use Rattle.plate.proofs.RoundTrip.{written-read}
 use Rattle.plate.proofs.Sized.{sized-made}
 use Rattle.walking.specs.Call.{walked, walkCall}
 use Rattle.walking.proofs.Waits.{walk-waits}
-use Rattle.run.specs.Run.{run}
-use Rattle.run.specs.Call.{ran, runCall}
-use Rattle.run.proofs.Steps.{run-steps}
+use Rattle.running.specs.Run.{run}
+use Rattle.running.specs.Call.{ran, runCall}
+use Rattle.running.proofs.Steps.{run-steps}
 use Rattle.translate.specs.Translation.{translateBlock, translateGuide}
 use Rattle.translate.specs.Call.{translation}
 use Rattle.agreement.specs.Agreement.{theWalk, theTranscript, Agreement}

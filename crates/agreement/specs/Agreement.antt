@@ -18,7 +18,7 @@ use Rattle.plate.specs.Program.{Program}
 use Rattle.plate.specs.Plate.{plateProgram}
 use Rattle.walking.specs.Walk.{walk}
 use Rattle.walking.specs.Call.{walkCall}
-use Rattle.run.specs.Call.{runCall}
+use Rattle.running.specs.Call.{runCall}
 
 -- the walk of a guide on a list of answers
 abbrev pub theWalk : Guide → List ℤ → Ending

@@ -9,7 +9,7 @@ ghost use Prim.Native.Nat.{ℕ, _≤_};
 ghost use mathlib.Core.Path.{_≡_};
 ghost use lib.ListN.{length, take};
 ghost use Rattle.causes.specs.Answers.{wrote, ranAnswer};
-ghost use Rattle.run.specs.Call.{scratchNumbers};
+ghost use Rattle.running.specs.Call.{scratchNumbers};
 ghost use Rattle.translate.specs.Call.{translateCall};
 ghost use Rattle.agreement.specs.Agreement.{Agreement};
 ghost use Rattle.agreement.specs.Composed.{translateThenRun};

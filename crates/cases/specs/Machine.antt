@@ -6,7 +6,7 @@ use lib.IntN.{ℤ, pos, negsuc}
 use Rattle.causes.specs.Answers.{wrote, ended, refusal}
 use Rattle.text.specs.Quoted.{bytes}
 use Rattle.walking.specs.Call.{walkCall}
-use Rattle.run.specs.Call.{runCall}
+use Rattle.running.specs.Call.{runCall}
 use Rattle.translate.specs.Call.{translation}
 use Rattle.cases.specs.Row.{Row, _gives_, refuses, fits, meets, bytesMade, untouched}
 

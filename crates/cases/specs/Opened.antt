@@ -20,8 +20,8 @@ use Rattle.guide.specs.Block as GuideBlock
 use Rattle.guide.specs.Guide as Guide
 use Rattle.walking.specs.Call as WalkCall
 use Rattle.walking.specs.Walk as Walk
-use Rattle.run.specs.Call as RunCall
-use Rattle.run.specs.Run as Run
+use Rattle.running.specs.Call as RunCall
+use Rattle.running.specs.Run as Run
 use Rattle.translate.specs.Call as TranslateCall
 use Rattle.translate.specs.Translation as TranslateTranslation
 use Rattle.cases.specs.Agree.{allAgree}

@@ -5,7 +5,7 @@ use lib.ListN.{replicate}
 use Rattle.text.specs.Quoted.{bytes}
 use Rattle.causes.specs.Answers.{wrote, ended, refusal}
 use Rattle.bits.specs.Bits.{pack}
-use Rattle.run.specs.Call.{runCall}
+use Rattle.running.specs.Call.{runCall}
 use Rattle.listing.specs.Calls.{readPlateCall}
 use Rattle.cases.specs.Row.{Row, _gives_, hex, bitsIn, plate, times, refuses, writes, fits, plateRefused, untouched}
 use Rattle.cases.specs.Guides.{printed}

@@ -12,7 +12,7 @@ use Rattle.bits.specs.Bits.{pack}
 use Rattle.text.specs.Parts.{LF}
 use Rattle.text.specs.Number.{decimalℕ}
 use Rattle.walking.specs.Call.{walkCall}
-use Rattle.run.specs.Call.{runCall}
+use Rattle.running.specs.Call.{runCall}
 use Rattle.listing.specs.Calls.{readPlateCall}
 use Rattle.translate.specs.Call.{translation, translateCall}
 

@@ -7,7 +7,7 @@ ghost use Rattle.causes.specs.Answers.{writtenAnswer, ranAnswer};
 ghost use Rattle.translate.specs.Call.{translateCall};
 ghost use Rattle.listing.specs.Calls.{writePlateCall, readPlateCall};
 ghost use Rattle.walking.specs.Call.{walkCall};
-ghost use Rattle.run.specs.Call.{runCall};
+ghost use Rattle.running.specs.Call.{runCall};
 ghost use Rattle.doorplate.specs.Values.{writtenValues, ranValues, WrittenIs, RanIs};
 
 // doorplate_written in C: number 0 and the length, or a refusal's number and place.

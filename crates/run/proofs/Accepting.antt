@@ -23,10 +23,10 @@ use Rattle.instructions.specs.TextsAt.{instructionAt}
 use Rattle.reader.specs.declared.Contents.{Contents}
 use Rattle.reader.specs.Holding.{programAt}
 use Rattle.reader.proofs.Options.{inputs-asked}
-use Rattle.run.specs.Says.{textsAt}
-use Rattle.run.specs.Meets.{Meets}
+use Rattle.run_steps.specs.Says.{textsAt}
+use Rattle.run_steps.specs.Meets.{Meets}
 use Rattle.run.specs.Accepted.{Accepted}
-use Rattle.run.proofs.Handed.{text-fits}
+use Rattle.run_steps.proofs.Handed.{text-fits}
 
 -- an instruction that was read and meets the rules can be met
 rules-meet : (plate book own : List ℕ) (count behind at next : ℕ) (i : InstructionAt)

@@ -20,8 +20,8 @@ use Rattle.reader.specs.declared.Contents.{Contents}
 use Rattle.reader.specs.declared.PlateRead.{PlateRead}
 use Rattle.reader.specs.declared.PlateRead.the-variants.{Holds, Refused}
 use Rattle.reader.specs.Holding.{programAt, programRead, Stands}
-use Rattle.run.specs.Run.{run}
-use Rattle.run.specs.Call.{ran, runCall}
+use Rattle.running.specs.Run.{run}
+use Rattle.running.specs.Call.{ran, runCall}
 use Rattle.run.specs.Accepted.{Accepted}
 
 -- the phrases of a book that is checked are at most 256

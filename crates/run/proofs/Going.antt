@@ -27,11 +27,11 @@ use Rattle.instructions.specs.declared.InstructionRead.the-variants as instruct
 use Rattle.instructions.specs.TextsAt.{instructionAt, instructionRead, Known}
 use Rattle.reader.specs.declared.Contents.{Contents}
 use Rattle.reader.specs.Holding.{instructionsAt, programAt}
-use Rattle.run.specs.Run.{run}
-use Rattle.run.specs.Meets.{leftBy, overBy}
+use Rattle.running.specs.Run.{run}
+use Rattle.run_steps.specs.Meets.{leftBy, overBy}
 use Rattle.run.specs.Accepted.{instructionsFrom, Continues}
-use Rattle.run.proofs.Nexts.{next-read, next-there, none-left}
-use Rattle.run.proofs.Meeting.{run-first}
+use Rattle.run_steps.proofs.Nexts.{next-read, next-there, none-left}
+use Rattle.run_steps.proofs.Meeting.{run-first}
 
 -- ---- a run only adds to the transcript
 

@@ -1,11 +1,3 @@
-pub mod Passing
-pub mod Steps
-pub mod Numbered
-pub mod Handed
-pub mod Nexts
-pub mod Offering
-pub mod Saying
-pub mod Meeting
 pub mod Accepting
 pub mod Going
 pub mod Called

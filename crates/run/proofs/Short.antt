@@ -37,7 +37,7 @@ use Rattle.plate.proofs.RoundTrip.{read-written}
 use Rattle.reader.specs.declared.Contents.{Contents}
 use Rattle.reader.specs.Holding.{instructionsAt, programAt}
 use Rattle.reader.proofs.Next.{there-length}
-use Rattle.run.specs.Run.{run}
+use Rattle.running.specs.Run.{run}
 use Rattle.machine.specs.Ranged.{Ranged}
 use Rattle.run.specs.Accepted.{Accepted}
 

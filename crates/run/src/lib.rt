@@ -1,30 +1,21 @@
 // The runner: runs a plate.
-// specs/Run.antt says what the run of a plate's instructions is; specs/Call.antt what the call answers and leaves in the lent buffer.
+// crate running says in its specs/Run.antt what the run of a plate's instructions is, and in its specs/Call.antt what the call answers and
+// leaves in the lent buffer; crate run_steps meets one instruction.
 // The book is checked, then the whole plate is read, and a refusal leaves the buffer as it was. The run goes from instruction to
 // instruction of the plate's bits. Jumps only go forward, so to skip is to read on: it keeps the bit of the next instruction, how many
 // are left, and how many of these are passed over. A buffer that holds the longest transcript is written at once; else the run is made
 // twice: first on no buffer, to learn the transcript's length, and then on the lent one. Scratch is tested for its length and left alone.
-mod meet;
 mod passes;
-mod perform;
-mod texts;
 
 use causes::Cause;
 use causes::Ran;
 use causes::Refusal;
 use phrases::Book;
 use reader::PlateRead;
-use transcript::Performed;
 ghost use mathlib.Core.Path.{_≡_};
 ghost use lib.ListN.{length};
 ghost use Rattle.causes.specs.Answers.{ranAnswer};
-ghost use Rattle.run.specs.Call.{runCall};
-
-// What an instruction leaves: the machine, the outcome and the transcript's end, and how many instructions behind it are passed over.
-pub struct Met {
-    pub left: Performed,
-    pub over: usize,
-}
+ghost use Rattle.running.specs.Call.{runCall};
 
 // A plate is run on the answers, and its transcript written.
 pub fn run(

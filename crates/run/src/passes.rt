@@ -1,5 +1,4 @@
 // The run in one or two passes.
-use crate::meet::meet;
 use causes::Cause;
 use causes::Outcome;
 use causes::Ran;
@@ -7,6 +6,7 @@ use causes::Refusal;
 use instructions::InstructionRead;
 use instructions::accepted_instruction;
 use reader::Contents;
+use run_steps::meet;
 use transcript::Performed;
 ghost use mathlib.Core.Path.{_≡_};
 ghost use mathlib.Core.List.{List};
@@ -18,7 +18,7 @@ ghost use Rattle.transcript.specs.State.{start};
 ghost use Rattle.transcript.specs.Perform.{report};
 ghost use Rattle.transcript.specs.Machine.{machineState, laid, performed};
 ghost use Rattle.reader.specs.Holding.{programAt};
-ghost use Rattle.run.specs.Run.{run};
+ghost use Rattle.running.specs.Run.{run};
 ghost use Rattle.run.specs.Accepted.{Accepted, instructionsFrom, Continues};
 
 // The run of n instructions from a bit on, behind what has been performed.

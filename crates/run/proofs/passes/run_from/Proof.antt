@@ -7,7 +7,7 @@ use lib.ListN.{length}
 use Rattle.causes.specs.declared.Outcome.the-variants.{End}
 use Rattle.transcript.specs.Machine.{machineState, laid}
 use Rattle.machine.proofs.Follow.{not-end}
-use Rattle.run.specs.Run.{run}
+use Rattle.running.specs.Run.{run}
 use Rattle.run.specs.Accepted.{instructionsFrom, Continues}
 use Rattle.run.proofs.Accepting.{accepted-meets}
 use Rattle.run.proofs.Going.{following, instruction-known, instruction-got, instruction-there, lay-stopped, lay-onward, lay-done}

@@ -1,0 +1,5 @@
+pub mod Handed
+pub mod Nexts
+pub mod Offering
+pub mod Saying
+pub mod Meeting

@@ -1,0 +1,33 @@
+-- One instruction of a run, with so many still to be passed over.
+use Prim.Native.Nat.{ℕ, zero, suc, _<_}
+use mathlib.Core.List.{List}
+use mathlib.Core.Bool.{cond}
+use Rattle.transcript.specs.State.{State, step}
+use Rattle.transcript.specs.Perform.{Ending, goesOn, perform, holds}
+use Rattle.plate.specs.Program.{Instruction, statement, goto, ifSkip}
+use Rattle.instructions.specs.declared.InstructionAt.{InstructionAt}
+use Rattle.instructions.specs.declared.InstructionAt.the-variants.{Input, Inputs, Print, Printex, Goto, IfSkip}
+use Rattle.run_steps.specs.Says.{Says}
+
+-- how it is left; "Each instruction met is one step"
+unfoldable pub leftBy : ℕ → Instruction → State → Ending
+leftBy (suc over) i s = goesOn s
+leftBy zero (statement x) s = perform x s
+leftBy zero (goto skip) s = goesOn (step s)
+leftBy zero (ifSkip test skip) s = goesOn (step s)
+
+-- how many are then to be passed over; "An if whose test holds goes on to the next; otherwise, like goto, .. to i + 1 + skip"
+unfoldable pub overBy : ℕ → Instruction → State → ℕ
+overBy (suc over) i s = over
+overBy zero (statement x) s = 0
+overBy zero (goto skip) s = skip
+overBy zero (ifSkip test skip) s = cond (holds test s) 0 skip
+
+-- what meeting it asks: of a statement what performing it asks, and a register that is one of the 32
+abbrev pub Meets : List ℕ → List ℕ → List ℕ → ℕ → InstructionAt → Type 0
+Meets plate book own count (Input r t) = Says plate book own count (Input r t)
+Meets plate book own count (Inputs r t n bit) = Says plate book own count (Inputs r t n bit)
+Meets plate book own count (Print t) = Says plate book own count (Print t)
+Meets plate book own count (Printex t) = Says plate book own count (Printex t)
+Meets plate book own count (Goto k) = Unit
+Meets plate book own count (IfSkip test k) = test .register < 32

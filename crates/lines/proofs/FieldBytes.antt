@@ -13,7 +13,8 @@ use Rattle.text.specs.Text.{allowed, textByte, isText}
 use Rattle.text.specs.Number.{natural}
 use Rattle.text.proofs.Tests.{and-parts, all-so, each-so, same-equal}
 use Rattle.text.proofs.Splits.{join-all, join-split}
-use Rattle.text.proofs.Bytes.{text-allowed, text-bytes, decimalℕ-bytes, decimal-bytes}
+use Rattle.text.proofs.Bytes.{text-allowed, text-bytes}
+use Rattle.text.proofs.DecimalBytes.{decimalℕ-bytes, decimal-bytes}
 use Rattle.text.proofs.Decimals.{natural-written}
 use Rattle.text.proofs.Constants.{constant-written}
 use Rattle.transcript.specs.declared.Op.{Op}

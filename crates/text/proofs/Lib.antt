@@ -4,6 +4,7 @@ pub mod Splits
 pub mod Decimals
 pub mod Constants
 pub mod Bytes
+pub mod DecimalBytes
 pub mod Places
 pub mod Searches
 pub mod Counts

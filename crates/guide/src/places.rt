@@ -56,7 +56,7 @@ fn role_in(line: &[u8]) -> Role
     requires { ⌜ isClean (lineOf aGuide (now line)) ≡ true ⌝ }
     ensures { λ r. ⌜ r ≡ roleOf (lineOf aGuide (now (line .entry))) ⌝ }
 {
-    let end = text::find(line, 0, b',');
+    let end = text::find_within(line, 0, b',');
     role_of_kind(lines::kind_of(&line[..end]))
 }
 
@@ -67,7 +67,7 @@ pub fn role_at(guide: &[u8], a: usize) -> LineRole
 {
     let mut start = a;
     loop {
-        let end = text::find(guide, start, b'\n');
+        let end = text::find_within(guide, start, b'\n');
         if end == guide.len() {
             return LineRole {
                 role: Role::Nothing,

@@ -1,6 +1,6 @@
 // Text: parts of it, which are lines or fields; texts; and numbers in decimal. They are read from lent bytes and written into a lent buffer.
-// Every function takes any content of any length, and its contract says its whole answer by a definition of specs/. `find` and
-// `find_far` alone have a condition: the place where they start is in the text or at its end.
+// Every function takes any content of any length, and its contract says its whole answer by a definition of specs/. `find`,
+// `find_far` and `find_within` alone have a condition: the place where they start is in the text or at its end.
 // `part` returns a part of the text, never a copy. A reader of a number takes such a part and answers an enum.
 // A writer stores as far as the buffer goes, and answers where its writing ends (crate output).
 mod number;
@@ -17,6 +17,7 @@ pub use parts::part_start;
 pub use parts::same;
 pub use search::find;
 pub use search::find_far;
+pub use search::find_within;
 pub use texts::are_allowed;
 pub use texts::are_texts;
 pub use texts::is_text;

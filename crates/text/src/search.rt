@@ -41,20 +41,20 @@ pub fn find_far(s: &[u8], a: usize, x: u8) -> usize
     find_within(s, i, x)
 }
 
-// The same, byte by byte.
-fn find_within(s: &[u8], a: usize, x: u8) -> usize
+// The same, byte by byte: for a byte that is mostly near, where little code matters.
+pub fn find_within(s: &[u8], a: usize, x: u8) -> usize
     requires { ⌜ a ≤ length (now s) ⌝ }
     ensures { λ r. ⌜ r ≡ a + untilByte x (drop a (now (s .entry))) ⌝ }
     ensures { λ r. ⌜ r ≤ length (now (s .entry)) ⌝ }
 {
-    let mut i = a;
-    while i < s.len() {
-        if s[i] == x {
-            return i;
+    let mut at = a;
+    while at < s.len() {
+        if s[at] == x {
+            return at;
         }
-        i += 1;
+        at += 1;
     }
-    i
+    at
 }
 
 // Whether x is one of the 16 bytes from a on. The loop does not stop at the first, so that it can take all 16 at a time.

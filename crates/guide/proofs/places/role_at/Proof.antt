@@ -21,11 +21,11 @@ abbrev μ-loop : tie.MeasureT-loop
 loop-holds : tie.Need-loop-holds Inv-loop μ-loop
 loop-holds c = (refl, search needs, search needs, c .before .pre .1)
 
-find-requires : tie.Need-find-requires Inv-loop μ-loop
-find-requires c κs = search needs
+find-within-requires : tie.Need-find-within-requires Inv-loop μ-loop
+find-within-requires c κs = search needs
 
 returns : tie.Need-returns Inv-loop μ-loop
-returns c = reads-none _ _ _ _ (c .before .before .loop .inv .0) (c .before .before .loop .inv .1) (c .before .find .ensures .0) (c .if1 .taken)
+returns c = reads-none _ _ _ _ (c .before .before .loop .inv .0) (c .before .before .loop .inv .1) (c .before .find-within .ensures .0) (c .if1 .taken)
 
 sub-role-in : tie.Need-sub-role-in Inv-loop μ-loop
 sub-role-in c = search needs
@@ -37,7 +37,7 @@ part-role-in-end : tie.Need-part-role-in-end Inv-loop μ-loop
 part-role-in-end c = search needs
 
 role-in-requires : tie.Need-role-in-requires Inv-loop μ-loop
-role-in-requires c κs = clean-line _ _ _ _ (c .before .before .find .ensures .0) (omega arith) (c .before .before .before .loop .inv .3)
+role-in-requires c κs = clean-line _ _ _ _ (c .before .before .find-within .ensures .0) (omega arith) (c .before .before .before .loop .inv .3)
 
 in-block-requires : tie.Need-in-block-requires Inv-loop μ-loop
 in-block-requires c κs = search needs
@@ -48,7 +48,7 @@ add-t13 c = search needs
 returns-2 : tie.Need-returns-2 Inv-loop μ-loop
 returns-2 c =
     let l = c .before .before .before .before .before .before .loop .inv in
-    reads-role _ _ _ _ (l .0) (l .1) (c .before .before .before .before .before .find .ensures .0) _ (c .before .before .role-in .ensures) (sym (c .before .in-block .ensures) ∙ c .if2 .taken) (omega arith) (l .3)
+    reads-role _ _ _ _ (l .0) (l .1) (c .before .before .before .before .before .find-within .ensures .0) _ (c .before .before .role-in .ensures) (sym (c .before .in-block .ensures) ∙ c .if2 .taken) (omega arith) (l .3)
 
 add-start : tie.Need-add-start Inv-loop μ-loop
 add-start c = search needs
@@ -59,7 +59,7 @@ loop-less c = search needs
 loop-again : tie.Need-loop-again Inv-loop μ-loop
 loop-again c =
     let l = c .before .before .before .before .before .before .loop .inv in
-    let k = c .before .before .before .before .before .find .ensures .0 in
+    let k = c .before .before .before .before .before .find-within .ensures .0 in
     (reads-on _ _ _ _ (l .0) (l .1) k _ (c .before .before .role-in .ensures) (sym (c .before .in-block .ensures) ∙ c .if2 .left) (omega arith), search needs, search needs, clean-behind _ _ _ _ k (omega arith) (l .3))
 
 pub role-at-spec : {M : Type 1} → statement M
@@ -69,7 +69,7 @@ role-at-spec =
     Inv-loop
     μ-loop
     loop-holds
-    find-requires
+    find-within-requires
     returns
     sub-role-in
     part-role-in-start

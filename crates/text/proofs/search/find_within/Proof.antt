@@ -1,4 +1,4 @@
--- `find_within` meets its contract: the first x from a on is the first from i on.
+-- `find_within` meets its contract: the first x from a on is the first from that place on.
 use Prim.Native.Nat.{_+_, _≤_, _-_}
 use mathlib.Core.Path.{sym, _∙_, _≡_, refl}
 use lib.ListN.{length, drop}
@@ -9,10 +9,10 @@ use Rattle.text.proofs.search.find_within.Statement.{statement}
 use Rattle.text.proofs.search.find_within.Tie as tie
 
 abbrev Inv-loop : tie.InvT-loop
-Inv-loop s a x i₀ i = (a + untilByte x (drop a s) ≡ i + untilByte x (drop i s)) × (i ≤ length s)
+Inv-loop s a x at₀ at = (a + untilByte x (drop a s) ≡ at + untilByte x (drop at s)) × (at ≤ length s)
 
 abbrev μ-loop : tie.MeasureT-loop
-μ-loop s a x i₀ i = length s - i
+μ-loop s a x at₀ at = length s - at
 
 loop-holds : tie.Need-loop-holds Inv-loop μ-loop
 loop-holds c = (refl, c .pre)
@@ -24,8 +24,8 @@ returns : tie.Need-returns Inv-loop μ-loop
 returns c =
     (until-here _ _ _ (c .before .before .loop-test .taken) (c .if1 .taken) ∙ sym (c .before .before .before .loop .inv .0), search needs)
 
-add-i : tie.Need-add-i Inv-loop μ-loop
-add-i c = search needs
+add-at : tie.Need-add-at Inv-loop μ-loop
+add-at c = search needs
 
 loop-less : tie.Need-loop-less Inv-loop μ-loop
 loop-less c = search needs
@@ -46,7 +46,7 @@ find-within-spec =
     loop-holds
     shared-slice-read-if1
     returns
-    add-i
+    add-at
     loop-less
     loop-again
     returns-2)

@@ -1,7 +1,7 @@
 -- All definitions that a case computes with, opened by one name.
 use Prim.Native.Nat.{ℕ}
 use Rattle.bits.specs.Bits as Bits
-use Rattle.text.specs.Number as TextNumber
+use Rattle.decimals.specs.Number as TextNumber
 use Rattle.text.specs.Parts as TextParts
 use Rattle.text.specs.Text as Text
 use Rattle.phrases.specs.Book as PhrasesBook

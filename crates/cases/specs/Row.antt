@@ -10,7 +10,7 @@ use lib.IntN.{ℤ}
 use Rattle.causes.specs.Answers.{Result, made, refused, Answer, wrote, ended, refusal}
 use Rattle.bits.specs.Bits.{pack}
 use Rattle.text.specs.Parts.{LF}
-use Rattle.text.specs.Number.{decimalℕ}
+use Rattle.decimals.specs.Number.{decimalℕ}
 use Rattle.walking.specs.Call.{walkCall}
 use Rattle.running.specs.Call.{runCall}
 use Rattle.listing.specs.Calls.{readPlateCall}

@@ -116,7 +116,7 @@ pub fn put_each(plate: &[u8], bit: usize, size: usize, out: &mut [u8], at: usize
     let mut place = bit;
     let mut i = 0;
     while i < size {
-        end = text::put_byte(out, end, character_at(plate, place));
+        end = text_out::put_byte(out, end, character_at(plate, place));
         place = output::sum(place, 7);
         i += 1;
     }

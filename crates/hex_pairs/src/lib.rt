@@ -76,7 +76,7 @@ fn read_line(out: &mut [u8], at: usize, line: &[u8]) -> Line
             if 15 < low {
                 return Line { end, whole: false };
             }
-            end = text::put_byte(out, end, high * 16 + low);
+            end = text_out::put_byte(out, end, high * 16 + low);
             i += 2;
         }
     }

@@ -11,7 +11,7 @@ use Rattle.causes.specs.declared.Cause.{Cause}
 use Rattle.causes.specs.declared.Cause.the-variants.{Byte, Value}
 use Rattle.text.specs.Parts.{comma, split, partsFrom, all}
 use Rattle.text.specs.Text.{Text, allowed, isText}
-use Rattle.text.specs.Number.{register, skip}
+use Rattle.decimals.specs.Number.{register, skip}
 use Rattle.transcript.specs.Statement.{input, inputs}
 use Rattle.transcript.specs.declared.Test.{Test}
 use Rattle.lines.specs.declared.Form.{Form}

@@ -10,13 +10,13 @@ use Rattle.causes.specs.declared.Cause.the-variants.{Byte}
 use Rattle.text.specs.Quoted.{bytes}
 use Rattle.text.specs.Parts.{split, comma, same, all}
 use Rattle.text.specs.Text.{allowed, textByte, isText}
-use Rattle.text.specs.Number.{natural}
+use Rattle.decimals.specs.Number.{natural}
 use Rattle.text.proofs.Tests.{and-parts, all-so, each-so, same-equal}
 use Rattle.text.proofs.Splits.{join-all, join-split}
 use Rattle.text.proofs.Bytes.{text-allowed, text-bytes}
-use Rattle.text.proofs.DecimalBytes.{decimalℕ-bytes, decimal-bytes}
-use Rattle.text.proofs.Decimals.{natural-written}
-use Rattle.text.proofs.Constants.{constant-written}
+use Rattle.decimals.proofs.DecimalBytes.{decimalℕ-bytes, decimal-bytes}
+use Rattle.decimals.proofs.Decimals.{natural-written}
+use Rattle.decimals.proofs.Constants.{constant-written}
 use Rattle.transcript.specs.declared.Op.{Op}
 use Rattle.lines.specs.declared.Form.{Form}
 use Rattle.lines.specs.declared.Head.{Head}

@@ -12,7 +12,7 @@ use borrow.Author.Tests.{ne-eqb}
 use Rattle.causes.specs.declared.Cause.the-variants.{Kind, Value}
 use Rattle.text.specs.Parts.{all}
 use Rattle.text.specs.Text.{isText}
-use Rattle.text.specs.Number.{register, constant, skip}
+use Rattle.decimals.specs.Number.{register, constant, skip}
 use Rattle.transcript.specs.Statement.{input, inputs}
 use Rattle.transcript.specs.declared.Op.{Op}
 use Rattle.transcript.specs.declared.Test.{Test}

@@ -9,7 +9,7 @@ use lib.Seq.{take-all, drop-drop}
 use Rattle.causes.specs.declared.Cause.the-variants.{Kind, Value}
 use Rattle.text.specs.Parts.{comma, partsFrom, split, untilByte}
 use Rattle.text.specs.Text.{Text, textByte, isText}
-use Rattle.text.specs.Number.{skip}
+use Rattle.decimals.specs.Number.{skip}
 use Rattle.text.proofs.Tests.{all-so}
 use Rattle.text.proofs.Splits.{other, Some, split-some, split-last}
 use Rattle.text.proofs.Bytes.{text-bytes, text-no-comma}

@@ -6,13 +6,13 @@ use mathlib.Core.Bool.{Bool}
 use mathlib.Core.Option.{Option, none, some}
 use lib.IntN.{ℤ}
 use Rattle.text.specs.Text.{isText}
-use Rattle.text.specs.Number.{natural, constant}
-use Rattle.text.specs.Answers.{naturalAnswer, constantAnswer}
-use Rattle.text.specs.declared.Natural.{Natural}
-use Rattle.text.specs.declared.Natural.the-variants as natural
-use Rattle.text.specs.declared.Constant.{Constant}
-use Rattle.text.specs.declared.Constant.the-variants as constant
-use Rattle.text.proofs.Answers.{natural-is, natural-wrong, constant-is, constant-wrong}
+use Rattle.decimals.specs.Number.{natural, constant}
+use Rattle.decimals.specs.Answers.{naturalAnswer, constantAnswer}
+use Rattle.decimals.specs.declared.Natural.{Natural}
+use Rattle.decimals.specs.declared.Natural.the-variants as natural
+use Rattle.decimals.specs.declared.Constant.{Constant}
+use Rattle.decimals.specs.declared.Constant.the-variants as constant
+use Rattle.decimals.proofs.Answers.{natural-is, natural-wrong, constant-is, constant-wrong}
 use Rattle.transcript.specs.declared.Op.{Op}
 use Rattle.transcript.specs.declared.Test.{Test}
 use Rattle.lines.specs.declared.words.Operator.{Operator}

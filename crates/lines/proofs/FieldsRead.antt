@@ -10,7 +10,7 @@ use Rattle.causes.specs.declared.Cause.the-variants.{Byte, Kind, Value}
 use Rattle.text.specs.Quoted.{bytes}
 use Rattle.text.specs.Parts.{split, join, comma, same, all}
 use Rattle.text.specs.Text.{Text, allowed, textByte, isText}
-use Rattle.text.specs.Number.{register, constant, skip}
+use Rattle.decimals.specs.Number.{register, constant, skip}
 use Rattle.text.proofs.Tests.{each-so, same-equal}
 use Rattle.text.proofs.Splits.{other, Some, split-some, split-join, join-all}
 use Rattle.text.proofs.Bytes.{text-allowed, text-no-comma}

@@ -6,8 +6,8 @@ use lib.ListN.{length}
 use Rattle.text.specs.Parts.{all}
 use Rattle.text.specs.Text.{isText}
 use Rattle.text.proofs.Tests.{and-parts, in-range}
-use Rattle.text.proofs.Decimals.{natural-written}
-use Rattle.text.proofs.Constants.{constant-written}
+use Rattle.decimals.proofs.Decimals.{natural-written}
+use Rattle.decimals.proofs.Constants.{constant-written}
 use Rattle.text.proofs.Valid.{TextOk}
 use Rattle.transcript.proofs.Valid.{StatementOk, TestOk}
 use Rattle.lines.specs.declared.Form.{Form}

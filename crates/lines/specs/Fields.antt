@@ -2,7 +2,7 @@
 use Prim.Native.Nat.{ℕ}
 use mathlib.Core.List.{List}
 use mathlib.Core.Option.{Option, none, some, bind}
-use Rattle.text.specs.Number.{register, constant}
+use Rattle.decimals.specs.Number.{register, constant}
 use Rattle.transcript.specs.declared.Test.{Test}
 use Rattle.lines.specs.declared.fields.TestRead.{TestRead}
 use Rattle.lines.specs.declared.fields.TestRead.the-variants.{Is, Wrong}

@@ -10,7 +10,7 @@ use Rattle.causes.specs.declared.Cause.the-variants.{Byte, Kind, Value}
 use Rattle.text.specs.Quoted.{bytes}
 use Rattle.text.specs.Parts.{split, comma, same, all}
 use Rattle.text.specs.Text.{Text, allowed, isText}
-use Rattle.text.specs.Number.{register, constant, skip}
+use Rattle.decimals.specs.Number.{register, constant, skip}
 use Rattle.transcript.specs.Statement.{Statement, input, inputs, print, printex}
 use Rattle.transcript.specs.declared.Test.{Test}
 use Rattle.transcript.specs.declared.Op.{Op}

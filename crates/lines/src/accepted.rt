@@ -16,7 +16,7 @@ use crate::fields::read_test;
 use crate::words::Kind;
 use crate::words::kind_of;
 use causes::Cause;
-use text::Natural;
+use decimals::Natural;
 
 // The head of such a line.
 pub fn accepted_line(form: Form, s: &[u8]) -> Head
@@ -51,7 +51,7 @@ fn accepted_input(s: &[u8], a: usize) -> Head
     requires { ⌜ isClean (line.inputLine (partsFrom comma a (now s))) ≡ true ⌝ }
     ensures { λ r. ⌜ r ≡ headOf (line.inputLine (partsFrom comma a (now (s .entry)))) ⌝ }
 {
-    let Natural::Is(register) = text::read_natural(field_at(s, a), 31) else {
+    let Natural::Is(register) = decimals::read_natural(field_at(s, a), 31) else {
         return Head::Faulty {
             cause: Cause::Value,
         };
@@ -66,7 +66,7 @@ fn accepted_inputs(s: &[u8], a: usize) -> Head
     requires { ⌜ isClean (line.inputsLine (partsFrom comma a (now s))) ≡ true ⌝ }
     ensures { λ r. ⌜ r ≡ headOf (line.inputsLine (partsFrom comma a (now (s .entry)))) ⌝ }
 {
-    let Natural::Is(register) = text::read_natural(field_at(s, a), 31) else {
+    let Natural::Is(register) = decimals::read_natural(field_at(s, a), 31) else {
         return Head::Faulty {
             cause: Cause::Value,
         };
@@ -91,7 +91,7 @@ fn accepted_if(form: Form, s: &[u8], a: usize) -> Head
         return Head::If { test };
     }
     let c = behind(s, behind(s, a));
-    let Natural::Is(skip) = text::read_natural(field_at(s, behind(s, c)), 511) else {
+    let Natural::Is(skip) = decimals::read_natural(field_at(s, behind(s, c)), 511) else {
         return Head::Faulty {
             cause: Cause::Value,
         };
@@ -107,7 +107,7 @@ fn accepted_goto(form: Form, s: &[u8], a: usize) -> Head
     requires { ⌜ isClean (line.gotoFields form (partsFrom comma a (now s))) ≡ true ⌝ }
     ensures { λ r. ⌜ r ≡ headOf (line.gotoFields form (partsFrom comma a (now (s .entry)))) ⌝ }
 {
-    let Natural::Is(skip) = text::read_natural(field_at(s, a), 511) else {
+    let Natural::Is(skip) = decimals::read_natural(field_at(s, a), 511) else {
         return Head::Faulty {
             cause: Cause::Value,
         };

@@ -13,8 +13,8 @@ use crate::Head;
 use crate::words::Operator;
 use crate::words::read_operator;
 use causes::Cause;
-use text::Constant;
-use text::Natural;
+use decimals::Constant;
+use decimals::Natural;
 use transcript::Test;
 
 // What reading the R, OP and C of an if finds.
@@ -81,7 +81,7 @@ pub fn read_input(s: &[u8], a: usize) -> Head
         return Head::Faulty { cause: Cause::Kind };
     }
     let e = text::find(s, a, b',');
-    match text::read_natural(&s[a..e], 31) {
+    match decimals::read_natural(&s[a..e], 31) {
         Natural::Is(register) => read_text(
             s,
             e + 1,
@@ -110,7 +110,7 @@ pub fn read_inputs(s: &[u8], a: usize) -> Head
     if 10 < n {
         return Head::Faulty { cause: Cause::Kind };
     }
-    let Natural::Is(register) = text::read_natural(field_at(s, a), 31) else {
+    let Natural::Is(register) = decimals::read_natural(field_at(s, a), 31) else {
         return Head::Faulty {
             cause: Cause::Value,
         };
@@ -130,14 +130,14 @@ pub fn read_inputs(s: &[u8], a: usize) -> Head
 pub fn read_test(s: &[u8], a: usize) -> TestRead
     ensures { λ r. ⌜ r ≡ testAnswer (testOf (getD (partsFrom comma a (now (s .entry))) 0 []) (getD (partsFrom comma a (now (s .entry))) 1 []) (getD (partsFrom comma a (now (s .entry))) 2 [])) ⌝ }
 {
-    let Natural::Is(register) = text::read_natural(field_at(s, a), 31) else {
+    let Natural::Is(register) = decimals::read_natural(field_at(s, a), 31) else {
         return TestRead::Wrong;
     };
     let b = behind(s, a);
     let Operator::Is(op) = read_operator(field_at(s, b)) else {
         return TestRead::Wrong;
     };
-    let Constant::Is(constant) = text::read_constant(field_at(s, behind(s, b))) else {
+    let Constant::Is(constant) = decimals::read_constant(field_at(s, behind(s, b))) else {
         return TestRead::Wrong;
     };
     TestRead::Is(Test {
@@ -186,7 +186,7 @@ fn read_listing_if(s: &[u8], a: usize) -> Head
             cause: Cause::Value,
         };
     };
-    let Natural::Is(skip) = text::read_natural(text::part(&s[a..], b',', 3), 511) else {
+    let Natural::Is(skip) = decimals::read_natural(text::part(&s[a..], b',', 3), 511) else {
         return Head::Faulty {
             cause: Cause::Value,
         };
@@ -224,7 +224,7 @@ pub fn read_goto(form: Form, s: &[u8], a: usize) -> Head
     if e < s.len() {
         return Head::Faulty { cause: Cause::Kind };
     }
-    let Natural::Is(skip) = text::read_natural(&s[a..e], 511) else {
+    let Natural::Is(skip) = decimals::read_natural(&s[a..e], 511) else {
         return Head::Faulty {
             cause: Cause::Value,
         };

@@ -8,10 +8,10 @@ use borrow.Author.Tests.{le-leb}
 use Rattle.text.specs.Parts.{join, comma, same, all}
 use Rattle.text.specs.Text.{isText, textByte}
 use Rattle.text.proofs.Tests.{all-so}
-use Rattle.text.proofs.Decimals.{natural-read}
-use Rattle.text.proofs.Constants.{constant-read}
+use Rattle.decimals.proofs.Decimals.{natural-read}
+use Rattle.decimals.proofs.Constants.{constant-read}
 use Rattle.text.proofs.Bytes.{text-bytes}
-use Rattle.text.proofs.DecimalBytes.{decimalℕ-bytes, decimal-bytes}
+use Rattle.decimals.proofs.DecimalBytes.{decimalℕ-bytes, decimal-bytes}
 use Rattle.transcript.specs.Statement.{input, inputs, print, printex}
 use Rattle.transcript.specs.declared.Op.{Op}
 use Rattle.transcript.specs.declared.Op.the-variants.{Eq, Ne, Lt, Le, Gt, Ge}

@@ -7,8 +7,8 @@ use mathlib.Core.Option.{Option, none, some, Option·none-ne-some}
 use Rattle.text.specs.Parts.{join, comma, same}
 use Rattle.text.proofs.Tests.{same-equal}
 use Rattle.text.proofs.Splits.{join-split}
-use Rattle.text.proofs.Decimals.{natural-written}
-use Rattle.text.proofs.Constants.{constant-written}
+use Rattle.decimals.proofs.Decimals.{natural-written}
+use Rattle.decimals.proofs.Constants.{constant-written}
 use Rattle.transcript.specs.declared.Op.{Op}
 use Rattle.transcript.specs.declared.Op.the-variants.{Eq, Ne, Lt, Le, Gt, Ge}
 use Rattle.lines.specs.declared.Form.the-variants.{Listing}

@@ -8,8 +8,8 @@ use Rattle.text.specs.Parts.{join, comma}
 use Rattle.text.specs.Text.{Text, isText}
 use Rattle.text.proofs.Valid.{TextsOk}
 use Rattle.text.proofs.Tests.{all-first, all-rest}
-use Rattle.text.proofs.Decimals.{decimalℕ-short}
-use Rattle.text.proofs.Constants.{decimal-short}
+use Rattle.decimals.proofs.Decimals.{decimalℕ-short}
+use Rattle.decimals.proofs.Constants.{decimal-short}
 use Rattle.text.proofs.Bytes.{text-size}
 use Rattle.transcript.specs.Statement.{input, inputs, print, printex}
 use Rattle.transcript.specs.declared.Op.{Op}

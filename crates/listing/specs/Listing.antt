@@ -10,7 +10,7 @@ use Rattle.causes.specs.declared.Cause.the-variants.{Skip}
 use Rattle.text.specs.Quoted.{bytes}
 use Rattle.text.specs.Parts.{join, comma, LF}
 use Rattle.text.specs.Text.{Text}
-use Rattle.text.specs.Number.{decimal, decimalℕ}
+use Rattle.decimals.specs.Number.{decimal, decimalℕ}
 use Rattle.transcript.specs.Statement.{Statement, input, inputs, print, printex}
 use Rattle.transcript.specs.declared.Test.{Test}
 use Rattle.transcript.specs.declared.Op.{Op}

@@ -6,7 +6,7 @@ use Rattle.causes.specs.declared.Cause.{Cause}
 use Rattle.causes.specs.declared.Outcome.{Outcome}
 use Rattle.text.specs.Quoted.{bytes}
 use Rattle.text.specs.Parts.{comma, LF}
-use Rattle.text.specs.Number.{decimalℕ}
+use Rattle.decimals.specs.Number.{decimalℕ}
 use Rattle.printed.specs.Pairs.{pairs}
 
 -- "`plate,` and the bytes", ended by LF

@@ -4,7 +4,7 @@ use causes::Refusal;
 use causes::Report;
 ghost use mathlib.Core.Path.{_≡_};
 ghost use mathlib.Core.List.{_++_};
-ghost use Rattle.text.specs.Number.{decimalℕ};
+ghost use Rattle.decimals.specs.Number.{decimalℕ};
 ghost use Rattle.output.specs.Pour.{poured};
 ghost use Rattle.printed.specs.Lines.{plateLine, refusedLine, reportLine};
 
@@ -12,8 +12,8 @@ ghost use Rattle.printed.specs.Lines.{plateLine, refusedLine, reportLine
 fn put_labelled(out: &mut [u8], at: usize, label: &[u8], v: usize) -> usize
     ensures { λ r. ⌜ (r, now (out .exit)) ≡ poured at (now (label .entry) ++ decimalℕ v) (now (out .entry)) ⌝ }
 {
-    let end = text::put(out, at, label);
-    text::put_natural(out, end, v)
+    let end = text_out::put(out, at, label);
+    text_out::put_natural(out, end, v)
 }
 
 // refused,NUMBER,PLACE
@@ -25,16 +25,16 @@ pub fn put_refused(out: &mut [u8], at: usize, r: Refusal) -> usize
     let number = causes::number_of(cause);
     let end = put_labelled(out, at, b"refused,", number as usize);
     let end = put_labelled(out, end, b",", place);
-    text::put_byte(out, end, b'\n')
+    text_out::put_byte(out, end, b'\n')
 }
 
 // plate, and the bytes.
 pub fn put_plate(out: &mut [u8], at: usize, plate: &[u8]) -> usize
     ensures { λ r. ⌜ (r, now (out .exit)) ≡ poured at (plateLine (now (plate .entry))) (now (out .entry)) ⌝ }
 {
-    let end = text::put(out, at, b"plate,");
+    let end = text_out::put(out, at, b"plate,");
     let end = put_pairs(out, end, plate);
-    text::put_byte(out, end, b'\n')
+    text_out::put_byte(out, end, b'\n')
 }
 
 // outcome,N,taken,N,steps,N
@@ -48,5 +48,5 @@ pub fn put_report(out: &mut [u8], at: usize, r: Report) -> usize
     let end = put_labelled(out, at, b"outcome,", number as usize);
     let end = put_labelled(out, end, b",taken,", taken);
     let end = put_labelled(out, end, b",steps,", steps);
-    text::put_byte(out, end, b'\n')
+    text_out::put_byte(out, end, b'\n')
 }

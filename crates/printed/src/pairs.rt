@@ -17,8 +17,8 @@ fn digit(n: u8) -> u8
 fn put_pair(out: &mut [u8], at: usize, b: u8) -> usize
     ensures { λ r. ⌜ (r, now (out .exit)) ≡ poured at (hexadecimal (b / 16) ∷ hexadecimal (b % 16) ∷ []) (now (out .entry)) ⌝ }
 {
-    let end = text::put_byte(out, at, digit(b / 16));
-    text::put_byte(out, end, digit(b % 16))
+    let end = text_out::put_byte(out, at, digit(b / 16));
+    text_out::put_byte(out, end, digit(b % 16))
 }
 
 // The pairs of digits of the bytes.

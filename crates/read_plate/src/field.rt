@@ -4,7 +4,7 @@ ghost use mathlib.Core.List.{_∷_};
 ghost use Prim.Native.Nat.{_≤_, _<_};
 ghost use lib.ListN.{length};
 ghost use Rattle.text.specs.Parts.{comma};
-ghost use Rattle.text.specs.Number.{decimalℕ, decimal};
+ghost use Rattle.decimals.specs.Number.{decimalℕ, decimal};
 ghost use Rattle.output.specs.Pour.{poured};
 ghost use Rattle.phrases.specs.Index.{Indexed};
 ghost use Rattle.instructions.specs.TextsAt.{textAt};
@@ -28,7 +28,7 @@ fn put_text_at<'a>(
     match text {
         TextAt::Spelled { bit, size } => fields::put_characters(plate, bit, size, out, at),
         TextAt::Phrase { own: is_own, place } => {
-            text::put(
+            text_out::put(
                 out,
                 at,
                 phrases::phrase_text(index, book, own, is_own, place),
@@ -50,7 +50,7 @@ pub fn put_text<'a>(
     requires { ⌜ (length (now plate) ≤ 2953) × Indexed (now index) (now book) ⌝ }
     ensures { λ r. ⌜ (r, now (out .exit)) ≡ poured at (comma ∷ textAt (now (plate .entry)) (now (book .entry)) (now (own .entry)) text) (now (out .entry)) ⌝ }
 {
-    let end = text::put_byte(out, at, b',');
+    let end = text_out::put_byte(out, at, b',');
     put_text_at(plate, index, book, own, text, out, end)
 }
 
@@ -59,22 +59,22 @@ pub fn put_natural(out: &mut [u8], at: usize, n: usize) -> usize
     requires { ⌜ n < 512 ⌝ }
     ensures { λ r. ⌜ (r, now (out .exit)) ≡ poured at (comma ∷ decimalℕ n) (now (out .entry)) ⌝ }
 {
-    let end = text::put_byte(out, at, b',');
-    text::put_natural(out, end, n)
+    let end = text_out::put_byte(out, at, b',');
+    text_out::put_natural(out, end, n)
 }
 
 // OP.
 pub fn put_operator(out: &mut [u8], at: usize, op: Op) -> usize
     ensures { λ r. ⌜ (r, now (out .exit)) ≡ poured at (comma ∷ operatorWord op) (now (out .entry)) ⌝ }
 {
-    let end = text::put_byte(out, at, b',');
+    let end = text_out::put_byte(out, at, b',');
     match op {
-        Op::Eq => text::put(out, end, b"eq"),
-        Op::Ne => text::put(out, end, b"ne"),
-        Op::Lt => text::put(out, end, b"lt"),
-        Op::Le => text::put(out, end, b"le"),
-        Op::Gt => text::put(out, end, b"gt"),
-        Op::Ge => text::put(out, end, b"ge"),
+        Op::Eq => text_out::put(out, end, b"eq"),
+        Op::Ne => text_out::put(out, end, b"ne"),
+        Op::Lt => text_out::put(out, end, b"lt"),
+        Op::Le => text_out::put(out, end, b"le"),
+        Op::Gt => text_out::put(out, end, b"gt"),
+        Op::Ge => text_out::put(out, end, b"ge"),
     }
 }
 
@@ -82,6 +82,6 @@ pub fn put_operator(out: &mut [u8], at: usize, op: Op) -> usize
 pub fn put_constant(out: &mut [u8], at: usize, constant: i32) -> usize
     ensures { λ r. ⌜ (r, now (out .exit)) ≡ poured at (comma ∷ decimal constant) (now (out .entry)) ⌝ }
 {
-    let end = text::put_byte(out, at, b',');
-    text::put_number(out, end, constant)
+    let end = text_out::put_byte(out, at, b',');
+    text_out::put_number(out, end, constant)
 }

@@ -5,7 +5,7 @@ ghost use Prim.Native.Nat.{_≤_, _<_};
 ghost use lib.ListN.{length};
 ghost use Rattle.output.specs.Pour.{poured};
 ghost use Rattle.text.specs.Parts.{comma};
-ghost use Rattle.text.specs.Number.{decimalℕ};
+ghost use Rattle.decimals.specs.Number.{decimalℕ};
 ghost use Rattle.phrases.specs.Lookup.{phrasesIn};
 ghost use Rattle.phrases.specs.Index.{Indexed};
 ghost use Rattle.plate.specs.Plate as reader;
@@ -37,9 +37,9 @@ fn put_text_line<'a>(
     requires { ⌜ (length (now plate) ≤ 2953) × Indexed (now index) (now book) ⌝ }
     ensures { λ r. ⌜ (r, now (tail .exit)) ≡ poured 0 (linesText ((now (word .entry) ∷ textAt (now (plate .entry)) (now (book .entry)) (now (own .entry)) text ∷ []) ∷ [])) (now (tail .entry)) ⌝ }
 {
-    let end = text::put(tail, 0, word);
+    let end = text_out::put(tail, 0, word);
     let end = put_text(plate, index, book, own, text, tail, end);
-    text::put_byte(tail, end, b'\n')
+    text_out::put_byte(tail, end, b'\n')
 }
 
 // `print,TEXT`.
@@ -86,7 +86,7 @@ fn put_question<'a>(
     requires { ⌜ (length (now plate) ≤ 2953) × Indexed (now index) (now book) × (register < 32) ⌝ }
     ensures { λ r. ⌜ (r, now (tail .exit)) ≡ poured 0 ((now (word .entry) ++ (comma ∷ decimalℕ register)) ++ (comma ∷ textAt (now (plate .entry)) (now (book .entry)) (now (own .entry)) text)) (now (tail .entry)) ⌝ }
 {
-    let end = text::put(tail, 0, word);
+    let end = text_out::put(tail, 0, word);
     let end = put_natural(tail, end, register);
     put_text(plate, index, book, own, text, tail, end)
 }
@@ -105,7 +105,7 @@ fn put_input<'a>(
     ensures { λ r. ⌜ (r, now (tail .exit)) ≡ poured 0 (linesText (statementFields (input register (textAt (now (plate .entry)) (now (book .entry)) (now (own .entry)) text)) ∷ [])) (now (tail .entry)) ⌝ }
 {
     let end = put_question(plate, index, book, own, b"input", register, text, tail);
-    text::put_byte(tail, end, b'\n')
+    text_out::put_byte(tail, end, b'\n')
 }
 
 // `inputs,R,TEXT,OPTION,..`.
@@ -126,7 +126,7 @@ fn put_inputs<'a>(
 {
     let end = put_question(plate, index, book, own, b"inputs", register, text, tail);
     let end = put_options(plate, index, book, own, count, options, bit, tail, end);
-    text::put_byte(tail, end, b'\n')
+    text_out::put_byte(tail, end, b'\n')
 }
 
 // `goto,SKIP`.
@@ -134,9 +134,9 @@ fn put_goto(skip: usize, tail: &mut [u8]) -> usize
     requires { ⌜ skip < 512 ⌝ }
     ensures { λ r. ⌜ (r, now (tail .exit)) ≡ poured 0 (linesText (instructionFields (goto skip) ∷ [])) (now (tail .entry)) ⌝ }
 {
-    let skip_at = text::put(tail, 0, b"goto");
+    let skip_at = text_out::put(tail, 0, b"goto");
     let end = put_natural(tail, skip_at, skip);
-    text::put_byte(tail, end, b'\n')
+    text_out::put_byte(tail, end, b'\n')
 }
 
 // `if,R,OP,C,SKIP`.
@@ -147,12 +147,12 @@ fn put_if(test: Test, skip: usize, tail: &mut [u8]) -> usize
     let register = test.register;
     let op = test.op;
     let constant = test.constant;
-    let end = text::put(tail, 0, b"if");
+    let end = text_out::put(tail, 0, b"if");
     let end = put_natural(tail, end, register);
     let end = put_operator(tail, end, op);
     let end = put_constant(tail, end, constant);
     let end = put_natural(tail, end, skip);
-    text::put_byte(tail, end, b'\n')
+    text_out::put_byte(tail, end, b'\n')
 }
 
 // The line of an instruction.

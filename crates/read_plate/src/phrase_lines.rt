@@ -9,9 +9,9 @@ ghost use Rattle.listing.specs.Listing.{phraseFields, linesText};
 fn put_phrase(text: &[u8], tail: &mut [u8]) -> usize
     ensures { λ r. ⌜ (r, now (tail .exit)) ≡ poured 0 (linesText (phraseFields (now (text .entry)) ∷ [])) (now (tail .entry)) ⌝ }
 {
-    let end = text::put(tail, 0, b"phrase,");
-    let end = text::put(tail, end, text);
-    text::put_byte(tail, end, b'\n')
+    let end = text_out::put(tail, 0, b"phrase,");
+    let end = text_out::put(tail, end, text);
+    text_out::put_byte(tail, end, b'\n')
 }
 
 // The line at a place of the listing: its tail from there on, which is empty past the buffer's end, takes it.

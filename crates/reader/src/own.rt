@@ -40,9 +40,9 @@ fn put_phrase(plate: &[u8], bit: usize, size: usize, own: &mut [u8], at: usize) 
     requires { ⌜ length (now plate) ≤ 2953 ⌝ }
     ensures { λ r. ⌜ (r, now (own .exit)) ≡ poured at (phraseLine (charactersIn size (drop bit (bytesBits (now (plate .entry)))))) (now (own .entry)) ⌝ }
 {
-    let text_at = text::put(own, at, b"phrase,");
+    let text_at = text_out::put(own, at, b"phrase,");
     let end = put_characters(plate, bit, size, own, text_at);
-    text::put_byte(own, end, b'\n')
+    text_out::put_byte(own, end, b'\n')
 }
 
 // So many own phrases from a bit on.

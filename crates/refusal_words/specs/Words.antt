@@ -21,7 +21,7 @@ use Rattle.causes.specs.declared.Cause.the-variants.{
 }
 use Rattle.text.specs.Quoted.{bytes}
 use Rattle.text.specs.Parts.{LF}
-use Rattle.text.specs.Number.{decimalℕ}
+use Rattle.decimals.specs.Number.{decimalℕ}
 use Rattle.refusal_words.specs.declared.Counted.{Counted}
 use Rattle.refusal_words.specs.declared.Counted.the-variants.{Lines, Bits}
 use Rattle.refusal_words.specs.declared.Place.{Place}

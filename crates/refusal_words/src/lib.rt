@@ -2,11 +2,11 @@
 // `put_words` stores as far as the buffer goes, from a place on, and answers where its writing ends (crate output).
 use causes::Cause;
 use causes::Refusal;
-use text::put;
+use text_out::put;
 ghost use mathlib.Core.Path.{_≡_};
 ghost use mathlib.Core.List.{_++_};
 ghost use Rattle.text.specs.Quoted.{bytes};
-ghost use Rattle.text.specs.Number.{decimalℕ};
+ghost use Rattle.decimals.specs.Number.{decimalℕ};
 ghost use Rattle.output.specs.Pour.{poured};
 ghost use Rattle.refusal_words.specs.Words.{placeOf, placeWords, causeWords, wordsLine};
 
@@ -55,7 +55,7 @@ fn put_numbered(out: &mut [u8], at: usize, words: &[u8], n: usize) -> usize
     ensures { λ r. ⌜ (r, now (out .exit)) ≡ poured at ((now (words .entry) ++ decimalℕ n) ++ bytes ": ") (now (out .entry)) ⌝ }
 {
     let end = put(out, at, words);
-    let end = text::put_natural(out, end, n);
+    let end = text_out::put_natural(out, end, n);
     put(out, end, b": ")
 }
 
@@ -103,5 +103,5 @@ pub fn put_words(out: &mut [u8], at: usize, counted: Counted, r: Refusal) -> usi
     let n = r.place;
     let end = put_place(out, at, place_of(counted, cause), n);
     let end = put_cause(out, end, cause);
-    text::put_byte(out, end, b'\n')
+    text_out::put_byte(out, end, b'\n')
 }

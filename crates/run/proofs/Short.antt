@@ -13,7 +13,7 @@ use Rattle.text.specs.Parts.{join, comma}
 use Rattle.text.specs.Text.{Text, isText}
 use Rattle.text.proofs.Valid.{TextsOk}
 use Rattle.text.proofs.Tests.{all-first, all-rest}
-use Rattle.text.proofs.Constants.{decimal-short}
+use Rattle.decimals.proofs.Constants.{decimal-short}
 use Rattle.text.proofs.Bytes.{text-size}
 use Rattle.transcript.specs.Statement.{Statement, input, inputs, print, printex}
 use Rattle.transcript.specs.State.{TranscriptLine, asked, offered, answered, shown, ruled, fieldsOf, lineBytes, transcriptBytes, State, start, step, writeLine}

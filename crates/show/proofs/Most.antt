@@ -29,8 +29,8 @@ use Rattle.causes.specs.declared.Cause.the-variants.{
 }
 use Rattle.text.specs.Quoted.{bytes}
 use Rattle.text.specs.Parts.{comma, LF}
-use Rattle.text.specs.Number.{decimalℕ}
-use Rattle.text.proofs.Decimals.{decimalℕ-short}
+use Rattle.decimals.specs.Number.{decimalℕ}
+use Rattle.decimals.proofs.Decimals.{decimalℕ-short}
 use Rattle.translate.specs.Call.{translation}
 use Rattle.printed.specs.Pairs.{pairs}
 use Rattle.printed.specs.Lines.{plateLine, refusedLine}

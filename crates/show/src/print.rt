@@ -8,6 +8,6 @@ ghost use Rattle.printed.specs.Lines.{plateLine};
 pub fn put_accepted(out: &mut [u8], listing: &[u8], plate: &[u8]) -> usize
     ensures { λ r. ⌜ (r, now (out .exit)) ≡ poured 0 (now (listing .entry) ++ plateLine (now (plate .entry))) (now (out .entry)) ⌝ }
 {
-    let end = text::put(out, 0, listing);
+    let end = text_out::put(out, 0, listing);
     printed::put_plate(out, end, plate)
 }

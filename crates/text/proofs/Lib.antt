@@ -1,15 +1,8 @@
 pub mod Valid
 pub mod Tests
 pub mod Splits
-pub mod Decimals
-pub mod Constants
 pub mod Bytes
-pub mod DecimalBytes
 pub mod Places
 pub mod Searches
 pub mod Counts
 pub mod Flags
-pub mod Reading
-pub mod Answers
-pub mod Signs
-pub mod Digits

@@ -1,5 +1,3 @@
 pub mod Quoted
 pub mod Parts
 pub mod Text
-pub mod Number
-pub mod Answers

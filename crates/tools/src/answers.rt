@@ -1,8 +1,8 @@
 // Answers from the arguments.
 use crate::Input;
 use crate::results::tell;
+use decimals::Constant;
 use printed::front;
-use text::Constant;
 ghost use mathlib.Core.Path.{_≡_};
 ghost use lib.ListN.{take};
 
@@ -37,7 +37,7 @@ pub fn read_answers(from: usize, space: &mut [i32]) -> Input {
 fn read_answer(i: usize) -> Constant {
     let mut word = [0; 16];
     let length = os::arg(i, &mut word);
-    text::read_constant(front(&word, length))
+    decimals::read_constant(front(&word, length))
 }
 
 // The first n answers, or all where there are fewer.

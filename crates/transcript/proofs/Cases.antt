@@ -8,7 +8,7 @@ use lib.ListN.{set, replicate}
 use lib.IntN.{ℤ, pos, negsuc}
 use Rattle.text.specs.Quoted.{bytes}
 use Rattle.text.specs.Parts.{join}
-use Rattle.text.specs.Number.{digits, decimal}
+use Rattle.decimals.specs.Number.{digits, decimal}
 use Rattle.transcript.specs.declared.Test.{Test}
 use Rattle.transcript.specs.declared.Op.{Op}
 use Rattle.transcript.specs.declared.Op.the-variants.{Eq, Ne, Lt, Le, Gt, Ge}

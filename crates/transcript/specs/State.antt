@@ -5,7 +5,7 @@ use lib.ListN.{replicate}
 use lib.IntN.{ℤ, pos}
 use Rattle.text.specs.Parts.{join, comma, LF}
 use Rattle.text.specs.Text.{Text}
-use Rattle.text.specs.Number.{decimal}
+use Rattle.decimals.specs.Number.{decimal}
 use Rattle.text.specs.Quoted.{bytes}
 
 -- "Transcript lines"

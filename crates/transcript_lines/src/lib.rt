@@ -12,18 +12,18 @@ ghost use Rattle.transcript.specs.Offered.{offerBytes};
 fn put_texts(tail: &mut [u8], first: &[u8], second: &[u8], third: &[u8]) -> usize
     ensures { λ r. ⌜ (r, now (tail .exit)) ≡ poured 0 ((now (first .entry) ++ now (second .entry)) ++ now (third .entry)) (now (tail .entry)) ⌝ }
 {
-    let end = text::put(tail, 0, first);
-    let end = text::put(tail, end, second);
-    text::put(tail, end, third)
+    let end = text_out::put(tail, 0, first);
+    let end = text_out::put(tail, end, second);
+    text_out::put(tail, end, third)
 }
 
 // The A line of a number, at the front of the tail.
 fn put_answer(tail: &mut [u8], v: i32) -> usize
     ensures { λ r. ⌜ (r, now (tail .exit)) ≡ poured 0 (lineBytes (answered v)) (now (tail .entry)) ⌝ }
 {
-    let end = text::put(tail, 0, b"A,");
-    let end = text::put_number(tail, end, v);
-    text::put_byte(tail, end, b'\n')
+    let end = text_out::put(tail, 0, b"A,");
+    let end = text_out::put_number(tail, end, v);
+    text_out::put_byte(tail, end, b'\n')
 }
 
 // Three texts at a place of the transcript: its tail from there on, which is empty past the buffer's end, takes them.

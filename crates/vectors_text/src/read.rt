@@ -1,6 +1,6 @@
 // The cases that read. Each function writes a line, and returns the place behind the case.
-use text::Constant;
-use text::Natural;
+use decimals::Constant;
+use decimals::Natural;
 
 // Whether the bytes are allowed, and whether they are a text.
 pub fn text(s: &[u8], at: usize) -> usize {
@@ -49,7 +49,7 @@ pub fn texts(s: &[u8], at: usize) -> usize {
 pub fn natural(s: &[u8], at: usize) -> usize {
     let limit = vectors::number(s, at) as u32;
     let first = vectors::past(at, 4);
-    match text::read_natural(vectors::slice(s, first), limit) {
+    match decimals::read_natural(vectors::slice(s, first), limit) {
         Natural::Is(value) => {
             vectors::write_yes(true);
             vectors::write_comma();
@@ -63,7 +63,7 @@ pub fn natural(s: &[u8], at: usize) -> usize {
 
 // A constant.
 pub fn constant(s: &[u8], at: usize) -> usize {
-    match text::read_constant(vectors::slice(s, at)) {
+    match decimals::read_constant(vectors::slice(s, at)) {
         Constant::Is(value) => {
             vectors::write_yes(true);
             vectors::write_comma();

@@ -12,7 +12,7 @@ fn line(place: usize, out: &[u8]) {
 // A number from 0 on.
 pub fn natural(s: &[u8], at: usize, out: &mut [u8], place: usize) -> usize {
     vectors::fill(out);
-    let end = text::put_natural(out, place, vectors::number(s, at));
+    let end = text_out::put_natural(out, place, vectors::number(s, at));
     line(end, out);
     vectors::past(at, 4)
 }
@@ -20,7 +20,7 @@ pub fn natural(s: &[u8], at: usize, out: &mut [u8], place: usize) -> usize {
 // A number with its sign.
 pub fn number(s: &[u8], at: usize, out: &mut [u8], place: usize) -> usize {
     vectors::fill(out);
-    let end = text::put_number(out, place, vectors::signed(s, at));
+    let end = text_out::put_number(out, place, vectors::signed(s, at));
     line(end, out);
     vectors::past(at, 4)
 }
@@ -28,7 +28,7 @@ pub fn number(s: &[u8], at: usize, out: &mut [u8], place: usize) -> usize {
 // Bytes.
 pub fn bytes(s: &[u8], at: usize, out: &mut [u8], place: usize) -> usize {
     vectors::fill(out);
-    let end = text::put(out, place, vectors::slice(s, at));
+    let end = text_out::put(out, place, vectors::slice(s, at));
     line(end, out);
     vectors::past_slice(s, at)
 }

@@ -16,7 +16,7 @@ use Rattle.causes.specs.Causes.{outcomeNumber}
 use Rattle.text.specs.Parts.{split, join, comma, LF}
 use Rattle.text.specs.Text.{Text}
 use Rattle.text.proofs.Splits.{join-split}
-use Rattle.text.proofs.Constants.{decimal-short}
+use Rattle.decimals.proofs.Constants.{decimal-short}
 use Rattle.output.proofs.Poured.{ended}
 use Rattle.transcript.specs.declared.Performed.{Performed}
 use Rattle.transcript.specs.Statement.{Statement, input, inputs, print, printex}

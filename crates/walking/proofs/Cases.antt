@@ -6,7 +6,7 @@ use lib.IntN.{ℤ, pos, negsuc}
 use Rattle.causes.specs.Answers.{Output, ended}
 use Rattle.text.specs.Quoted.{bytes}
 use Rattle.text.specs.Parts.{join}
-use Rattle.text.specs.Number.{digits, decimal}
+use Rattle.decimals.specs.Number.{digits, decimal}
 use Rattle.transcript.specs.declared.Op.{Op}
 use Rattle.transcript.specs.declared.Op.the-variants.{Eq, Lt, Ge}
 use Rattle.transcript.specs.Statement.{input, print, printex}

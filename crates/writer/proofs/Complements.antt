@@ -12,7 +12,7 @@ use borrow.Author.Tests.{leb-true, le-leb, lt-leb, ltb-true, ltb-false}
 use Rattle.bits.specs.Bits.{bitsOf}
 use Rattle.bits.proofs.Numbers.{length-bitsOf, value-of-low-bits, same-value}
 use Rattle.text.proofs.Tests.{and-parts}
-use Rattle.text.proofs.Signs.{Plain, Minus, minus-bits}
+use Rattle.decimals.proofs.Signs.{Plain, Minus, minus-bits}
 use Rattle.plate.specs.Writing.{complement, isShort}
 
 -- numbers with the same remainder have the same lowest bits

@@ -17,7 +17,7 @@ pub fn lend(array: &[u8], bits: usize, plate: &mut [u8]) -> Written
     match plate_room(bits, plate.len()) {
         Room::Refused(r) => Written::Refused(r),
         Room::Bytes(length) => {
-            text::put(plate, 0, &array[..length]);
+            text_out::put(plate, 0, &array[..length]);
             Written::Done(length)
         }
     }

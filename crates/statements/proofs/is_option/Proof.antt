@@ -1,7 +1,7 @@
 -- `is_option` meets its contract: a number below 0 is no place.
 use native.Mathlib.Omega.{arith}
 use mir.Facts.{toZ-ofZ}
-use Rattle.text.proofs.Signs.{plain}
+use Rattle.decimals.proofs.Signs.{plain}
 use Rattle.statements.proofs.Options.{option-plain, option-minus}
 use Rattle.statements.proofs.is_option.Statement.{statement}
 use Rattle.statements.proofs.is_option.Tie as tie

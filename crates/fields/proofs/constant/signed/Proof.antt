@@ -4,7 +4,7 @@ use mir.Syntax.{w32}
 use mir.Facts.{toZ-pos}
 use borrow.Author.Tests.{lt-ltb, le-ltb}
 use borrow.Author.Needs.{needs}
-use Rattle.text.proofs.Signs.{minus-bits}
+use Rattle.decimals.proofs.Signs.{minus-bits}
 use Rattle.fields.proofs.constant.signed.Statement.{statement}
 use Rattle.fields.proofs.constant.signed.Tie as tie
 

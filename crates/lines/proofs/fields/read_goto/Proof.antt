@@ -5,8 +5,8 @@ use mathlib.Core.Option.{none, some}
 use lib.ListN.{take, drop}
 use borrow.Author.Needs.{needs}
 use Rattle.text.specs.Parts.{comma}
-use Rattle.text.specs.Number.{skip}
-use Rattle.text.proofs.Answers.{natural-is, natural-wrong}
+use Rattle.decimals.specs.Number.{skip}
+use Rattle.decimals.proofs.Answers.{natural-is, natural-wrong}
 use Rattle.text.proofs.Places.{parts-none}
 use Rattle.lines.proofs.FieldPlaces.{goto-only, goto-more}
 use Rattle.lines.proofs.fields.read_goto.Statement.{statement}

@@ -4,7 +4,7 @@ use mathlib.Core.Path.{refl, sym, ap, _∙_}
 use borrow.Author.Needs.{needs}
 use Rattle.causes.specs.declared.Cause.the-variants.{Value}
 use Rattle.text.specs.Parts.{comma, partsFrom}
-use Rattle.text.proofs.Answers.{natural-is, natural-wrong}
+use Rattle.decimals.proofs.Answers.{natural-is, natural-wrong}
 use Rattle.text.proofs.Places.{parts-none, parts-next}
 use Rattle.transcript.specs.Statement.{input}
 use Rattle.lines.specs.Line.{says, faulty, inputLine}

@@ -1,6 +1,6 @@
 -- `to_bits` meets its contract: a constant below 0 is what its complement lacks to 32 ones.
 use native.Mathlib.Omega.{arith}
-use Rattle.text.proofs.Signs.{Plain, Minus, plain, signed}
+use Rattle.decimals.proofs.Signs.{Plain, Minus, plain, signed}
 use Rattle.writer.proofs.Complements.{plain-complement, minus-complement}
 use Rattle.writer.proofs.constants.to_bits.Statement.{statement}
 use Rattle.writer.proofs.constants.to_bits.Tie as tie

@@ -47,7 +47,7 @@ pub fn count_parts(s: &[u8], x: u8) -> usize
 {
     let mut n = 1;
     let mut i = 0;
-    while 16 <= s.len() - i {
+    while i + 16 <= s.len() {
         n += count_in(s, i, x) as usize;
         i += 16;
     }

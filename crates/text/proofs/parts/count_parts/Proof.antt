@@ -25,8 +25,8 @@ abbrev μ-loop2 : tie.MeasureT-loop2
 loop-holds : tie.Need-loop-holds Inv-loop μ-loop Inv-loop2 μ-loop2
 loop-holds c = search needs
 
-sub-loop : tie.Need-sub-loop Inv-loop μ-loop Inv-loop2 μ-loop2
-sub-loop c = search needs
+add-loop : tie.Need-add-loop Inv-loop μ-loop Inv-loop2 μ-loop2
+add-loop c = search needs
 
 count-in-requires : tie.Need-count-in-requires Inv-loop μ-loop Inv-loop2 μ-loop2
 count-in-requires c κs = search needs
@@ -85,7 +85,7 @@ count-parts-spec =
     Inv-loop2
     μ-loop2
     loop-holds
-    sub-loop
+    add-loop
     count-in-requires
     cast-n
     add-n

@@ -1,6 +1,2 @@
-pub mod TextAnswers
-pub mod Known
-pub mod SourceRead
-pub mod PhraseRead
-pub mod TextsRead
+pub mod InstructionAnswers
 pub mod FieldsRead

@@ -7,12 +7,10 @@ ghost use lib.ListN.{length};
 ghost use Rattle.phrases.specs.Lookup.{phrasesIn};
 ghost use Rattle.plate.specs.Plate.{fieldsBy, instruction};
 ghost use Rattle.fields.specs.Places.{placeAt};
-ghost use Rattle.instructions.specs.TextsAt.{instructionRead, Lent, Known};
+ghost use Rattle.plate_texts.specs.TextsAt.{Lent, Known};
+ghost use Rattle.instructions.specs.InstructionsAt.{instructionRead};
 use crate::InstructionAt;
 use crate::InstructionRead;
-use crate::TextRead;
-use crate::text_at::pass_texts;
-use crate::text_at::read_text;
 use causes::Cause;
 use fields::Field;
 use fields::TestRead;
@@ -20,6 +18,9 @@ use fields::read_field;
 use fields::read_plain;
 use fields::read_skip;
 use fields::read_test;
+use plate_texts::TextRead;
+use plate_texts::pass_texts;
+use plate_texts::read_text;
 
 // input: register, text.
 fn read_input(

@@ -12,8 +12,8 @@ use Rattle.instructions.specs.declared.InstructionAt.{InstructionAt}
 use Rattle.instructions.specs.declared.InstructionAt.the-variants.{Input, Inputs, Print, Printex, Goto, IfSkip}
 use Rattle.instructions.specs.declared.InstructionRead.{InstructionRead}
 use Rattle.instructions.specs.declared.InstructionRead.the-variants.{Is}
-use Rattle.instructions.specs.TextsAt.{instructionAt, instructionRead}
-use Rattle.instructions.proofs.TextAnswers.{instruction-got}
+use Rattle.instructions.specs.InstructionsAt.{instructionAt, instructionRead}
+use Rattle.instructions.proofs.InstructionAnswers.{instruction-got}
 use Rattle.reader.proofs.Ranges.{Reads, reads-any, reads-return, reads-judged, reads-number, reads-so, reads-then, read-good}
 use Rattle.reader.proofs.Options.{inputs-asked, input-register, test-register}
 use Rattle.read_plate.specs.Lines.{Ready}

@@ -7,9 +7,9 @@ ghost use Rattle.text.specs.Parts.{comma};
 ghost use Rattle.decimals.specs.Number.{decimalℕ, decimal};
 ghost use Rattle.output.specs.Pour.{poured};
 ghost use Rattle.phrases.specs.Index.{Indexed};
-ghost use Rattle.instructions.specs.TextsAt.{textAt};
+ghost use Rattle.plate_texts.specs.TextsAt.{textAt};
 ghost use Rattle.listing.specs.Listing.{operatorWord};
-use instructions::TextAt;
+use plate_texts::TextAt;
 use transcript::Op;
 
 // The bytes of a text of a plate: its characters, or a part of the book or of the own phrases.

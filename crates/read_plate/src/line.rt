@@ -11,7 +11,8 @@ ghost use Rattle.phrases.specs.Index.{Indexed};
 ghost use Rattle.plate.specs.Plate as reader;
 ghost use Rattle.transcript.specs.Statement.{input, inputs, print, printex};
 ghost use Rattle.plate.specs.Program.{goto, ifSkip};
-ghost use Rattle.instructions.specs.TextsAt.{textAt, Lent, instructionAt};
+ghost use Rattle.plate_texts.specs.TextsAt.{textAt, Lent};
+ghost use Rattle.instructions.specs.InstructionsAt.{instructionAt};
 ghost use Rattle.reader.specs.Holding.{There};
 ghost use Rattle.listing.specs.Listing.{statementFields, instructionFields, linesText};
 ghost use Rattle.read_plate.specs.Lines.{optionsAt, Ready};
@@ -21,7 +22,7 @@ use crate::field::put_operator;
 use crate::field::put_text;
 use crate::options::put_options;
 use instructions::InstructionAt;
-use instructions::TextAt;
+use plate_texts::TextAt;
 use transcript::Test;
 
 // A word and a text.

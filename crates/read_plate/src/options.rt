@@ -4,12 +4,12 @@ ghost use Rattle.output.specs.Pour.{poured};
 ghost use Rattle.phrases.specs.Lookup.{phrasesIn};
 ghost use Rattle.transcript.specs.Offered.{optionsBytes};
 ghost use Rattle.plate.specs.Plate as reader;
-ghost use Rattle.instructions.specs.TextsAt.{Lent};
+ghost use Rattle.plate_texts.specs.TextsAt.{Lent};
 ghost use Rattle.reader.specs.Holding.{There};
 ghost use Rattle.read_plate.specs.Lines.{optionsAt};
 use crate::field::put_text;
-use instructions::TextRead;
-use instructions::accepted_text;
+use plate_texts::TextRead;
+use plate_texts::accepted_text;
 
 // So many options from a bit on, each behind a comma. All are there, so none is refused.
 pub fn put_options<'a>(

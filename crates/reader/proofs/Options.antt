@@ -11,11 +11,11 @@ use Rattle.transcript.specs.declared.Test.{Test}
 use Rattle.plate.specs.Reading.{Read, got, stopped, many}
 use Rattle.plate.specs.Plate.{text, instruction}
 use Rattle.fields.specs.Places.{placeAt, valuesOf}
-use Rattle.instructions.specs.declared.TextAt.{TextAt}
+use Rattle.plate_texts.specs.declared.TextAt.{TextAt}
 use Rattle.instructions.specs.declared.InstructionAt.the-variants.{Input, Inputs, IfSkip}
 use Rattle.instructions.specs.declared.InstructionRead.{InstructionRead}
 use Rattle.instructions.specs.declared.InstructionRead.the-variants.{Is}
-use Rattle.instructions.specs.TextsAt.{instructionAt, instructionRead}
+use Rattle.instructions.specs.InstructionsAt.{instructionAt, instructionRead}
 use Rattle.reader.specs.Holding.{There}
 use Rattle.reader.proofs.Next.{there-length}
 use Rattle.reader.proofs.Ranges.{read-good, reads-instruction}

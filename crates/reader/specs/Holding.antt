@@ -9,7 +9,7 @@ use Rattle.plate.specs.Program.{Instruction, Program}
 use Rattle.plate.specs.Reading.{Place, Reader, got, many}
 use Rattle.plate.specs.Plate.{instruction}
 use Rattle.fields.specs.Places.{placeAt, valuesOf}
-use Rattle.instructions.specs.TextsAt.{Lent}
+use Rattle.plate_texts.specs.TextsAt.{Lent}
 use Rattle.reader.specs.declared.Contents.{Contents}
 use Rattle.reader.specs.declared.PlateRead.{PlateRead}
 use Rattle.reader.specs.declared.PlateRead.the-variants as plates

@@ -14,7 +14,7 @@ ghost use Rattle.reader.specs.Own.{phraseLine, ownPhrases, ownRead, OwnT
 use fields::Field;
 use fields::put_characters;
 use fields::read_plain;
-use instructions::read_spelled;
+use plate_texts::read_spelled;
 
 // How many own phrases there are: a bit, and 5 bits for their number less one.
 fn read_count(plate: &[u8], at: usize) -> Field

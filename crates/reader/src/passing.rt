@@ -4,7 +4,7 @@ ghost use Rattle.phrases.specs.Lookup.{phrasesIn};
 ghost use Rattle.plate.specs.Reading.{many};
 ghost use Rattle.plate.specs.Plate.{instruction};
 ghost use Rattle.fields.specs.Places.{placeAt, fieldRead, endWith};
-ghost use Rattle.instructions.specs.TextsAt.{Lent};
+ghost use Rattle.plate_texts.specs.TextsAt.{Lent};
 use fields::Field;
 use instructions::InstructionRead;
 use instructions::read_instruction;

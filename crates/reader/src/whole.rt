@@ -7,7 +7,7 @@ ghost use Rattle.phrases.specs.Lookup.{bookTexts, phrasesIn};
 ghost use Rattle.phrases.specs.Index.{Indexed};
 ghost use Rattle.plate.specs.Plate.{resultOf, plateProgram};
 ghost use Rattle.fields.specs.Places.{placeAt};
-ghost use Rattle.instructions.specs.TextsAt.{Lent};
+ghost use Rattle.plate_texts.specs.TextsAt.{Lent};
 ghost use Rattle.reader.specs.declared.Contents as contents;
 ghost use Rattle.reader.specs.declared.PlateRead.the-variants as plates;
 ghost use Rattle.reader.specs.Holding.{programRead, Stands};

@@ -19,7 +19,7 @@ use Rattle.fields.proofs.Onward.{got-good}
 use Rattle.instructions.specs.declared.InstructionAt.{InstructionAt}
 use Rattle.instructions.specs.declared.InstructionAt.the-variants.{Input, Inputs, Print, Printex, Goto, IfSkip}
 use Rattle.instructions.specs.declared.InstructionRead.the-variants.{Is}
-use Rattle.instructions.specs.TextsAt.{instructionAt}
+use Rattle.instructions.specs.InstructionsAt.{instructionAt}
 use Rattle.reader.specs.declared.Contents.{Contents}
 use Rattle.reader.specs.Holding.{programAt}
 use Rattle.reader.proofs.Options.{inputs-asked}

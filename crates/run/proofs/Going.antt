@@ -24,7 +24,8 @@ use Rattle.fields.specs.Places.{placeAt}
 use Rattle.instructions.specs.declared.InstructionAt.{InstructionAt}
 use Rattle.instructions.specs.declared.InstructionRead.{InstructionRead}
 use Rattle.instructions.specs.declared.InstructionRead.the-variants as instructions
-use Rattle.instructions.specs.TextsAt.{instructionAt, instructionRead, Known}
+use Rattle.plate_texts.specs.TextsAt.{Known}
+use Rattle.instructions.specs.InstructionsAt.{instructionAt, instructionRead}
 use Rattle.reader.specs.declared.Contents.{Contents}
 use Rattle.reader.specs.Holding.{instructionsAt, programAt}
 use Rattle.running.specs.Run.{run}

@@ -15,9 +15,9 @@ use Rattle.text.proofs.Valid.{TextOk}
 use Rattle.phrases.specs.Lookup.{phraseIn}
 use Rattle.fields.specs.Places.{charactersIn}
 use Rattle.fields.proofs.Copied.{length-characters}
-use Rattle.instructions.specs.declared.TextAt.{TextAt}
-use Rattle.instructions.specs.declared.TextAt.the-variants.{Spelled, Phrase}
-use Rattle.instructions.specs.TextsAt.{textAt}
+use Rattle.plate_texts.specs.declared.TextAt.{TextAt}
+use Rattle.plate_texts.specs.declared.TextAt.the-variants.{Spelled, Phrase}
+use Rattle.plate_texts.specs.TextsAt.{textAt}
 use Rattle.run_steps.specs.Texts.{Fits, textIn}
 
 module _ (text : TextAt) where

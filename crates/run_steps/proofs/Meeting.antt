@@ -15,7 +15,7 @@ use Rattle.plate.specs.Program.{Instruction, statement, goto, ifSkip}
 use Rattle.instructions.proofs.InstructionAt.{the-type}
 use Rattle.instructions.specs.declared.InstructionAt.{InstructionAt}
 use Rattle.instructions.specs.declared.InstructionAt.the-variants.{Input, Inputs, Print, Printex, Goto, IfSkip}
-use Rattle.instructions.specs.TextsAt.{instructionAt}
+use Rattle.instructions.specs.InstructionsAt.{instructionAt}
 use Rattle.running.specs.Run.{run}
 use Rattle.run_steps.specs.Says.{statementOf, Says}
 use Rattle.run_steps.specs.Meets.{leftBy, overBy, Meets}

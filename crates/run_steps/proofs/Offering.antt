@@ -18,10 +18,10 @@ use Rattle.plate.specs.Reading.{Reader}
 use Rattle.plate.specs.Plate as reader
 use Rattle.fields.specs.Places.{placeAt}
 use Rattle.fields.proofs.Answers.{answered}
-use Rattle.instructions.specs.declared.TextAt.{TextAt}
-use Rattle.instructions.specs.declared.TextRead.{TextRead}
-use Rattle.instructions.specs.declared.TextRead.the-variants as texts
-use Rattle.instructions.specs.TextsAt.{textAt, textsRead, textRefusal, Known}
+use Rattle.plate_texts.specs.declared.TextAt.{TextAt}
+use Rattle.plate_texts.specs.declared.TextRead.{TextRead}
+use Rattle.plate_texts.specs.declared.TextRead.the-variants as texts
+use Rattle.plate_texts.specs.TextsAt.{textAt, textsRead, textRefusal, Known}
 use Rattle.reader.proofs.Next.{there-length}
 use Rattle.run_steps.specs.Says.{textsAt, Offers}
 use Rattle.run_steps.proofs.Nexts.{valuesAt, next-read, next-there, none-left}

@@ -7,11 +7,11 @@ use types.Run.{OneOf, miss}
 use denote.Enum.Declared.{tagOf}
 use Rattle.text.specs.Text.{Text}
 use Rattle.instructions.proofs.InstructionAt.{the-type}
-use Rattle.instructions.specs.declared.TextAt.{TextAt}
-use Rattle.instructions.specs.declared.TextAt.the-variants.{Phrase}
+use Rattle.plate_texts.specs.declared.TextAt.{TextAt}
+use Rattle.plate_texts.specs.declared.TextAt.the-variants.{Phrase}
 use Rattle.instructions.specs.declared.InstructionAt.{InstructionAt}
 use Rattle.instructions.specs.declared.InstructionAt.the-variants.{Input, Inputs, Print, Printex, Goto, IfSkip}
-use Rattle.instructions.specs.TextsAt.{textAt}
+use Rattle.plate_texts.specs.TextsAt.{textAt}
 use Rattle.run_steps.specs.Texts.{Fits, textIn}
 use Rattle.run_steps.specs.Says.{statementText, Says}
 

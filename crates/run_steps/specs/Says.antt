@@ -11,8 +11,8 @@ use Rattle.plate.specs.Program.{Instruction, statement, goto, ifSkip}
 use Rattle.plate.specs.Reading.{many}
 use Rattle.plate.specs.Plate as reader
 use Rattle.fields.specs.Places.{placeAt, valuesOf}
-use Rattle.instructions.specs.declared.TextAt.{TextAt}
-use Rattle.instructions.specs.declared.TextAt.the-variants.{Phrase}
+use Rattle.plate_texts.specs.declared.TextAt.{TextAt}
+use Rattle.plate_texts.specs.declared.TextAt.the-variants.{Phrase}
 use Rattle.instructions.specs.declared.InstructionAt.{InstructionAt}
 use Rattle.instructions.specs.declared.InstructionAt.the-variants.{Input, Inputs, Print, Printex, Goto, IfSkip}
 use Rattle.reader.specs.Holding.{There}

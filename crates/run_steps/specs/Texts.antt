@@ -4,8 +4,8 @@ use mathlib.Core.List.{List}
 use lib.ListN.{take}
 use Rattle.text.specs.Text.{Text}
 use Rattle.phrases.specs.Lookup.{phraseIn}
-use Rattle.instructions.specs.declared.TextAt.{TextAt}
-use Rattle.instructions.specs.declared.TextAt.the-variants.{Spelled, Phrase}
+use Rattle.plate_texts.specs.declared.TextAt.{TextAt}
+use Rattle.plate_texts.specs.declared.TextAt.the-variants.{Spelled, Phrase}
 
 -- a text whose characters have room; "A text has 1 to 64 bytes"
 abbrev pub Fits : TextAt → Type 0

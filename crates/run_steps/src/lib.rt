@@ -16,7 +16,8 @@ ghost use Prim.Native.Nat.{ℕ, _+_, _≤_, _<_};
 ghost use lib.IntN.{ℤ};
 ghost use Rattle.transcript.specs.Perform.{goesOn};
 ghost use Rattle.transcript.specs.Machine.{machineState, laid, performed};
-ghost use Rattle.instructions.specs.TextsAt.{instructionAt, Lent};
+ghost use Rattle.plate_texts.specs.TextsAt.{Lent};
+ghost use Rattle.instructions.specs.InstructionsAt.{instructionAt};
 ghost use Rattle.run_steps.specs.Meets.{leftBy, overBy, Meets};
 
 // What an instruction leaves: the machine, the outcome and the transcript's end, and how many instructions behind it are passed over.

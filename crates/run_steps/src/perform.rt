@@ -2,8 +2,8 @@
 use crate::texts::spell;
 use crate::texts::text_of;
 use instructions::InstructionAt;
-use instructions::TextAt;
-use instructions::TextRead;
+use plate_texts::TextAt;
+use plate_texts::TextRead;
 use transcript::Machine;
 use transcript::Performed;
 ghost use mathlib.Core.Path.{_≡_};
@@ -13,7 +13,8 @@ ghost use Rattle.transcript.specs.State.{offered, lineBytes};
 ghost use Rattle.transcript.specs.Perform as statement;
 ghost use Rattle.transcript.specs.Machine.{machineState, laid, performed};
 ghost use Rattle.transcript.specs.Offered.{optionsBytes};
-ghost use Rattle.instructions.specs.TextsAt.{instructionAt, Lent};
+ghost use Rattle.plate_texts.specs.TextsAt.{Lent};
+ghost use Rattle.instructions.specs.InstructionsAt.{instructionAt};
 ghost use Rattle.run_steps.specs.Says.{statementOf, statementText, textsAt, Offers, Says};
 
 // The options of inputs, so many from a bit on.
@@ -36,7 +37,7 @@ fn put_options<'a>(
     let mut left = options;
     while 0 < left {
         // Never refused: the whole plate has been read.
-        let read = instructions::accepted_text(plate, place, index, book, own, count);
+        let read = plate_texts::accepted_text(plate, place, index, book, own, count);
         let TextRead::Is(text, next) = read else {
             return end;
         };

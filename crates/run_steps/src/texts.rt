@@ -4,9 +4,9 @@ ghost use mathlib.Core.List.{List};
 ghost use Prim.Native.Nat.{ℕ, _≤_};
 ghost use Rattle.phrases.specs.Index.{Indexed};
 ghost use lib.ListN.{length};
-ghost use Rattle.instructions.specs.TextsAt.{textAt};
+ghost use Rattle.plate_texts.specs.TextsAt.{textAt};
 ghost use Rattle.run_steps.specs.Texts.{Fits, textIn};
-use instructions::TextAt;
+use plate_texts::TextAt;
 
 // The characters of a text that is spelled out.
 pub fn spell(plate: &[u8], text: TextAt) -> [u8; 64]

@@ -1,7 +1,7 @@
 -- `InstructionRead::refusal` meets its contract.
 use mathlib.Core.Path.{ap, sym}
 use borrow.Author.Needs.{needs}
-use Rattle.instructions.specs.TextsAt.{instructionRefusal}
+use Rattle.instructions.specs.InstructionsAt.{instructionRefusal}
 use Rattle.instructions.proofs.InstructionRead.refusal.Statement.{statement}
 use Rattle.instructions.proofs.InstructionRead.refusal.Tie as tie
 

@@ -4,7 +4,7 @@ use borrow.Author.Needs.{needs}
 use Rattle.plate.specs.Plate.{instruction}
 use Rattle.fields.proofs.Onward.{then-got, then-stopped}
 use Rattle.fields.proofs.Answers.{field-got, field-stopped}
-use Rattle.instructions.proofs.Known.{known-same, known-then}
+use Rattle.plate_texts.proofs.Known.{known-same, known-then}
 use Rattle.instructions.proofs.FieldsRead.{fields-code, fields-last}
 use Rattle.instructions.proofs.instruction_at.read_any.Statement.{statement}
 use Rattle.instructions.proofs.instruction_at.read_any.Tie as tie

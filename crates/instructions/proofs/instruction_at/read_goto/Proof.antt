@@ -1,7 +1,7 @@
 -- `read_goto` meets its contract: one field.
 use borrow.Author.Needs.{needs}
 use Rattle.plate.specs.Reading.{return}
-use Rattle.instructions.specs.TextsAt.{instructionAt}
+use Rattle.instructions.specs.InstructionsAt.{instructionAt}
 use Rattle.fields.proofs.Onward.{then-got, then-stopped}
 use Rattle.fields.proofs.Answers.{field-got, field-stopped}
 use Rattle.instructions.proofs.instruction_at.read_goto.Statement.{statement}

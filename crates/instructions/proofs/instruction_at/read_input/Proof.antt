@@ -2,11 +2,11 @@
 use mathlib.Core.Path.{_∙_}
 use borrow.Author.Needs.{needs}
 use Rattle.plate.specs.Reading.{return}
-use Rattle.instructions.specs.TextsAt.{instructionAt}
+use Rattle.instructions.specs.InstructionsAt.{instructionAt}
 use Rattle.fields.proofs.Onward.{then-got, then-stopped}
 use Rattle.fields.proofs.Answers.{field-got, field-stopped}
-use Rattle.instructions.proofs.Known.{known-first, known-then}
-use Rattle.instructions.proofs.TextAnswers.{text-got, text-stopped}
+use Rattle.plate_texts.proofs.Known.{known-first, known-then}
+use Rattle.plate_texts.proofs.TextAnswers.{text-got, text-stopped}
 use Rattle.instructions.proofs.instruction_at.read_input.Statement.{statement}
 use Rattle.instructions.proofs.instruction_at.read_input.Tie as tie
 

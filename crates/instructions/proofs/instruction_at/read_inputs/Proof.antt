@@ -3,12 +3,12 @@ use mathlib.Core.Path.{_∙_}
 use native.Mathlib.Omega.{arith}
 use borrow.Author.Needs.{needs}
 use Rattle.plate.specs.Reading.{return}
-use Rattle.instructions.specs.TextsAt.{instructionAt}
+use Rattle.instructions.specs.InstructionsAt.{instructionAt}
 use Rattle.plate.proofs.Readers.{gives-number, gives-judged}
 use Rattle.fields.proofs.Onward.{then-got, then-stopped, got-good}
 use Rattle.fields.proofs.Answers.{field-got, field-stopped}
-use Rattle.instructions.proofs.Known.{known-same, known-first, known-then}
-use Rattle.instructions.proofs.TextAnswers.{text-got, text-stopped}
+use Rattle.plate_texts.proofs.Known.{known-same, known-first, known-then}
+use Rattle.plate_texts.proofs.TextAnswers.{text-got, text-stopped}
 use Rattle.instructions.proofs.FieldsRead.{options-read, options-got, options-stopped, options-refused}
 use Rattle.instructions.proofs.instruction_at.read_inputs.Statement.{statement}
 use Rattle.instructions.proofs.instruction_at.read_inputs.Tie as tie

@@ -1,6 +1,6 @@
 -- `read_instruction` meets its contract: nothing is known of the instruction.
 use borrow.Author.Needs.{needs}
-use Rattle.instructions.proofs.Known.{known-none}
+use Rattle.plate_texts.proofs.Known.{known-none}
 use Rattle.instructions.proofs.instruction_at.read_instruction.Statement.{statement}
 use Rattle.instructions.proofs.instruction_at.read_instruction.Tie as tie
 

@@ -1,10 +1,10 @@
 -- `read_printex` meets its contract: one field.
 use borrow.Author.Needs.{needs}
 use Rattle.plate.specs.Reading.{return}
-use Rattle.instructions.specs.TextsAt.{instructionAt}
+use Rattle.instructions.specs.InstructionsAt.{instructionAt}
 use Rattle.fields.proofs.Onward.{then-got, then-stopped}
-use Rattle.instructions.proofs.Known.{known-first}
-use Rattle.instructions.proofs.TextAnswers.{text-got, text-stopped}
+use Rattle.plate_texts.proofs.Known.{known-first}
+use Rattle.plate_texts.proofs.TextAnswers.{text-got, text-stopped}
 use Rattle.instructions.proofs.instruction_at.read_printex.Statement.{statement}
 use Rattle.instructions.proofs.instruction_at.read_printex.Tie as tie
 

@@ -1,5 +1,5 @@
 -- `put_text_at` meets its contract: characters from the plate, or a phrase's text.
-use Rattle.instructions.specs.TextsAt.{textAt}
+use Rattle.plate_texts.specs.TextsAt.{textAt}
 use borrow.Author.Needs.{needs}
 use Rattle.read_plate.proofs.field.put_text_at.Statement.{statement}
 use Rattle.read_plate.proofs.field.put_text_at.Tie as tie

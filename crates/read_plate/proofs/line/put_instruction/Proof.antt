@@ -1,6 +1,6 @@
 -- `put_instruction` meets its contract: the line of each kind.
 use mathlib.Core.Path.{subst}
-use Rattle.instructions.specs.TextsAt.{instructionAt}
+use Rattle.instructions.specs.InstructionsAt.{instructionAt}
 use Rattle.read_plate.specs.Lines.{Ready}
 use borrow.Author.Needs.{needs}
 use Rattle.read_plate.proofs.line.put_instruction.Statement.{statement}

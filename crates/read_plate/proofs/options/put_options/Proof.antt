@@ -7,7 +7,7 @@ use Rattle.output.specs.Pour.{poured}
 use Rattle.phrases.specs.Lookup.{phrasesIn}
 use Rattle.transcript.specs.Offered.{optionsBytes}
 use Rattle.plate.specs.Plate as reader
-use Rattle.instructions.proofs.TextAnswers.{text-got, text-stopped}
+use Rattle.plate_texts.proofs.TextAnswers.{text-got, text-stopped}
 use Rattle.read_plate.specs.Lines.{optionsAt}
 use Rattle.read_plate.proofs.Pieces.{Left, options-pieces, left-all, left-more, left-none, left-read}
 use Rattle.read_plate.proofs.options.put_options.Statement.{statement}

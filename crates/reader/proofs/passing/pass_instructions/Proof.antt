@@ -4,8 +4,8 @@ use borrow.Author.Needs.{needs}
 use Rattle.phrases.specs.Lookup.{phrasesIn}
 use Rattle.plate.specs.Plate.{instruction}
 use Rattle.fields.specs.Places.{placeAt}
-use Rattle.instructions.proofs.TextAnswers.{instruction-got, instruction-stopped}
-use Rattle.instructions.proofs.TextsRead.{Passing, passing-start, passing-more, passing-stopped, passing-end}
+use Rattle.instructions.proofs.InstructionAnswers.{instruction-got, instruction-stopped}
+use Rattle.plate_texts.proofs.TextsRead.{Passing, passing-start, passing-more, passing-stopped, passing-end}
 use Rattle.reader.proofs.passing.pass_instructions.Statement.{statement}
 use Rattle.reader.proofs.passing.pass_instructions.Tie as tie
 

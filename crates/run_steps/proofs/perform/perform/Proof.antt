@@ -2,7 +2,7 @@
 use mathlib.Core.Path.{refl, ap}
 use native.Mathlib.Omega.{arith}
 use Rattle.statements.proofs.Performs.{lay-offered}
-use Rattle.instructions.specs.TextsAt.{instructionAt}
+use Rattle.instructions.specs.InstructionsAt.{instructionAt}
 use Rattle.run_steps.specs.Says.{statementText, textsAt}
 use Rattle.run_steps.proofs.Offering.{options-count}
 use Rattle.run_steps.proofs.Saying.{says-text, is-printex, text-said}

@@ -1,0 +1,5 @@
+pub mod TextAnswers
+pub mod Known
+pub mod SourceRead
+pub mod PhraseRead
+pub mod TextsRead

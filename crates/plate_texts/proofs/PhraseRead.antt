@@ -1,0 +1,66 @@
+-- A phrase by its place, as the code reads it.
+use Prim.Native.Nat.{ℕ, zero, suc, _-_, _≤_, _<_}
+use mathlib.Core.Path.{_≡_, sym, ap, _∙_}
+use mathlib.Core.List.{List, []}
+use mathlib.Core.Bool.{Bool, true, false, cond}
+use native.Mathlib.Numerals.{sub-one}
+use native.Mathlib.Omega.{arith}
+use lib.ListN.{length, getD}
+use lib.Dec.{leb, ltb, leb·suc-suc}
+use borrow.Author.Tests.{ltb-true}
+use Rattle.causes.specs.declared.Cause.the-variants.{Unused}
+use Rattle.text.specs.Text.{Text}
+use Rattle.phrases.specs.Phrases.{width}
+use Rattle.phrases.specs.Lookup.{bookTexts, ownTexts, phraseIn}
+use Rattle.phrases.proofs.Width.{width-least}
+use Rattle.phrases.proofs.Entries.{indexed-count}
+use Rattle.phrases.proofs.Texts.{phrase-in-own, phrase-in-book}
+use Rattle.fields.specs.declared.Field.{Field}
+use Rattle.fields.specs.declared.Field.the-variants.{Is, Refused}
+use Rattle.plate_texts.specs.declared.TextRead.{TextRead}
+use Rattle.plate.specs.Reading.{got, Reader, number, judged, return}
+use Rattle.plate.specs.Plate.{phraseAt}
+use Rattle.fields.specs.Places.{placeAt, fieldRead}
+use Rattle.plate_texts.specs.TextsAt.{textAt, textsRead, phraseOf, Lent}
+use Rattle.plate.proofs.Readers.{gives-number, gives-judged}
+use Rattle.fields.proofs.Onward.{then-got, then-stopped, judged-alike, got-good}
+
+-- ---- the number of the book's phrases
+
+pub book-count : {plate index book own : List ℕ} {count : ℕ} → Lent plate index book own count → getD index 0 0 ≡ length (bookTexts book)
+book-count {plate} {index} {book} l = sym (indexed-count index book (l .indexed))
+
+-- ---- the place
+
+pub width-small : (n : ℕ) → n ≤ 256 → width n ≤ 32
+width-small n h = omega (arith, width-least n 8 h)
+
+-- below n is at most one less
+pub place-alike : (n : ℕ) (r : Reader ℕ) (plate : List ℕ) (at : ℕ) → 0 < n
+    → judged r (λ i. leb i (n - 1)) Unused (placeAt plate at) ≡ judged r (λ i. ltb i n) Unused (placeAt plate at)
+place-alike zero r plate at h = absurd (omega arith)
+place-alike (suc n) r plate at h =
+    judged-alike r (λ i. ltb i (suc n)) Unused plate at (λ i. leb i (suc n - 1)) (λ i. rw sub-one (sym (leb·suc-suc i n)))
+
+-- ---- the phrase there
+
+module _ (plate book own : List ℕ) (at : ℕ) (isOwn : Bool) (ts : List Text)
+    (there : (i : ℕ) → i < length ts → phraseIn book own isOwn i ≡ getD ts i []) where
+  phrase-there : (f : Field) → fieldRead plate f ≡ judged (number (width (length ts))) (λ i. ltb i (length ts)) Unused (placeAt plate at)
+      → textsRead plate book own (phraseOf f isOwn) ≡ phraseAt ts (placeAt plate at)
+  unfolding phraseAt textAt return
+  phrase-there (Is i next) e =
+      let good = got-good (placeAt plate at) (gives-judged (λ i. ltb i (length ts)) Unused (gives-number (width (length ts)))) e in
+      ap (λ t. got t (placeAt plate next)) (there i (ltb-true i (length ts) (good .1)))
+      ∙ then-got _ (λ i. return (getD ts i [])) (placeAt plate at) e
+  phrase-there (Refused r) e = then-stopped _ (λ i. return (getD ts i [])) (placeAt plate at) e
+
+module _ (plate book own : List ℕ) (at count n : ℕ) (f : Field) (r : TextRead)
+    (e : fieldRead plate f ≡ judged (number (width n)) (λ i. ltb i n) Unused (placeAt plate at))
+    (whole : length (ownTexts count own) ≡ count) where
+  pub place-there : (isOwn : Bool) → n ≡ length (cond isOwn (ownTexts count own) (bookTexts book)) → r ≡ phraseOf f isOwn
+      → textsRead plate book own r ≡ phraseAt (cond isOwn (ownTexts count own) (bookTexts book)) (placeAt plate at)
+  place-there true z k =
+      rw k (phrase-there plate book own at true (ownTexts count own) (λ i h. phrase-in-own book own i count (omega arith)) f (rw z at e))
+  place-there false z k =
+      rw k (phrase-there plate book own at false (bookTexts book) (λ i h. phrase-in-book book own i h) f (rw z at e))

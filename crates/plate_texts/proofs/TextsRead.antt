@@ -1,0 +1,96 @@
+-- Texts as the code reads them: the code, and one text behind the other.
+use Prim.Native.Nat.{ℕ, zero, suc, _+_, _-_, _<_}
+use mathlib.Core.Path.{_≡_, refl, ap, _∙_}
+use mathlib.Core.List.{List, _∷_}
+use mathlib.Core.Bool.{true, false, false≢true}
+use native.Mathlib.Numerals.{sub-one}
+use native.Mathlib.Omega.{arith}
+use lib.ListN.{length}
+use borrow.Author.Tests.{leb-true}
+use Rattle.causes.specs.declared.Cause.{Cause}
+use Rattle.causes.specs.declared.Cause.the-variants.{Unused}
+use Rattle.phrases.specs.Phrases.{Phrases}
+use Rattle.plate.specs.Reading.{Place, Read, got, stopped, Reader, number, judged, return, onward, _>>=_, many}
+use Rattle.plate.specs.Plate.{isTextCode, textBy, spelled, phrase}
+use Rattle.fields.specs.Places.{placeAt, endWith}
+use Rattle.plate_texts.specs.TextsAt.{codeWith}
+use Rattle.plate.proofs.Readers.{gives-number, gives-judged}
+use Rattle.fields.proofs.Onward.{then-stopped, judged-alike, got-good}
+
+-- ---- the code
+
+code-alike : (c : Phrases) (n : ℕ) → n ≡ length (c .book) + length (c .own) → (k : ℕ) → codeWith n k ≡ isTextCode c k
+code-alike c n e zero = refl
+code-alike c n e (suc zero) = refl
+code-alike c n e (suc (suc zero)) = rw e
+code-alike c n e (suc (suc (suc k))) = refl
+
+pub text-code : (c : Phrases) (n : ℕ) (plate : List ℕ) (at : ℕ) → n ≡ length (c .book) + length (c .own)
+    → judged (number 2) (codeWith n) Unused (placeAt plate at) ≡ judged (number 2) (isTextCode c) Unused (placeAt plate at)
+text-code c n plate at e = judged-alike (number 2) (isTextCode c) Unused plate at (codeWith n) (code-alike c n e)
+
+-- a code that is not 0 is 2, which is used only where there are phrases
+pub some-phrase : (n code : ℕ) (p q : Place) → got code q ≡ judged (number 2) (codeWith n) Unused p → (code ≡ 0 → ⊥) → 0 < n
+some-phrase n code p q e h = go code h (got-good p (gives-judged (codeWith n) Unused (gives-number 2)) e .1)
+  where
+    go : (k : ℕ) → (k ≡ 0 → ⊥) → codeWith n k ≡ true → 0 < n
+    go zero h t = absurd (h refl)
+    go (suc zero) h t = absurd (false≢true t)
+    go (suc (suc zero)) h t = leb-true 1 n t
+    go (suc (suc (suc k))) h t = absurd (false≢true t)
+
+pub by-spelled : (c : Phrases) (q : Place) (code : ℕ) → code ≡ 0 → spelled (c .book) (c .own) q ≡ textBy c code q
+by-spelled c q code z = rw z
+
+pub by-phrase : (c : Phrases) (q : Place) (code : ℕ) → (code ≡ 0 → ⊥) → phrase (c .book) (c .own) q ≡ textBy c code q
+by-phrase c q zero h = absurd (h refl)
+by-phrase c q (suc k) h = refl
+
+-- a code that is neither 0 nor 2
+pub unused-code : (n k : ℕ) → (k ≡ 0 → ⊥) → (k ≡ 2 → ⊥) → false ≡ codeWith n k
+unused-code n zero h g = absurd (h refl)
+unused-code n (suc zero) h g = refl
+unused-code n (suc (suc zero)) h g = absurd (g refl)
+unused-code n (suc (suc (suc k))) h g = refl
+
+-- ---- one behind the other
+
+-- what is left of n ends where all of them end; each reader is told how many come behind it
+pub record Passing {A : Type 0} (r : ℕ → Reader A) (p : Place) (n left : ℕ) (q : Place) : Type 0 where
+  pub rest : endWith n (many r left q) ≡ endWith n (many r n p)
+
+module _ {A : Type 0} (r : ℕ → Reader A) where
+  pub passing-start : (p : Place) (n : ℕ) → Passing r p n n p
+  passing-start p n = record { rest = refl }
+
+  end-more : (n left : ℕ) (q s : Place) (a : A) → got a s ≡ r left q → endWith n (many r left s) ≡ endWith n (many r (suc left) q)
+  unfolding many _>>=_ return
+  end-more n left q s a e = go (many r left s)
+      ∙ ap (λ m. endWith n (onward m (λ a. many r left >>= λ as′. return (a ∷ as′)))) e
+    where
+      go : (m : Read (List A)) → endWith n m ≡ endWith n (onward m (λ as′. return (a ∷ as′)))
+      go (got as′ q) = refl
+      go (stopped cause bit) = refl
+
+  module _ {p : Place} {n : ℕ} (left : ℕ) {q : Place} (w : Passing r p n left q) where
+    pub passing-more : (s : Place) (a : A) → 0 < left → got a s ≡ r (left - 1) q → Passing r p n (left - 1) s
+    passing-more s a h e = go left h w e
+      where
+        go : (k : ℕ) → 0 < k → Passing r p n k q → got a s ≡ r (k - 1) q → Passing r p n (k - 1) s
+        go zero h w e = absurd (omega arith)
+        go (suc k) h w e = let e′ = rw sub-one at e in rw sub-one (record { rest = end-more n k q s a e′ ∙ w .rest })
+
+    pub passing-stopped : {cause : Cause} {bit : ℕ} → 0 < left → stopped cause bit ≡ r (left - 1) q
+        → stopped cause bit ≡ endWith n (many r n p)
+    unfolding many
+    passing-stopped {cause} {bit} h e = go left h w e
+      where
+        go : (k : ℕ) → 0 < k → Passing r p n k q → stopped cause bit ≡ r (k - 1) q → stopped cause bit ≡ endWith n (many r n p)
+        go zero h w e = absurd (omega arith)
+        go (suc k) h w e =
+            let e′ = rw sub-one at e in
+            ap (endWith n) (then-stopped (r k) (λ a. many r k >>= λ as′. return (a ∷ as′)) q e′) ∙ w .rest
+
+    pub passing-end : left ≡ 0 → got n q ≡ endWith n (many r n p)
+    unfolding many return
+    passing-end z = (rw z at w) .rest

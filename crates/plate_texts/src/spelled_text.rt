@@ -1,0 +1,99 @@
+// A text that is spelled out: its characters up to ETX, judged as a whole at its first bit.
+ghost use mathlib.Core.Path.{_≡_};
+ghost use mathlib.Core.Bool.{_&&_};
+ghost use Prim.Native.Nat.{_≤_};
+ghost use lib.ListN.{length, drop};
+ghost use Rattle.bits.specs.Bits.{bytesBits};
+ghost use Rattle.text.specs.Text.{textSize};
+ghost use Rattle.phrases.specs.Phrases.{isNew};
+ghost use Rattle.phrases.specs.Lookup.{bookTexts, ownTexts};
+ghost use Rattle.phrases.specs.Index.{Indexed};
+ghost use Rattle.plate.specs.Plate.{spelled};
+ghost use Rattle.fields.specs.Places.{placeAt, sizeRead, charactersIn};
+ghost use Rattle.plate_texts.specs.TextsAt.{Known};
+use causes::Cause;
+use causes::Refusal;
+use fields::Field;
+use fields::put_characters;
+use fields::read_size;
+use phrases::Found;
+
+// Whether a text is no phrase.
+fn is_new(index: &[u32], book: &[u8], own: &[u8], count: usize, text: &[u8]) -> bool
+    requires { ⌜ Indexed (now index) (now book) ⌝ }
+    ensures { λ r. ⌜ r ≡ isNew (bookTexts (now (book .entry))) (ownTexts count (now (own .entry))) (now (text .entry)) ⌝ }
+{
+    match phrases::find_phrase(index, book, own, count, text) {
+        Found::InBook(_) => false,
+        Found::InOwn(_) => false,
+        Found::Nowhere => true,
+    }
+}
+
+// Whether so many characters from a bit on are 1 to 64, and no phrase.
+fn is_good(
+    plate: &[u8],
+    bit: usize,
+    size: usize,
+    index: &[u32],
+    book: &[u8],
+    own: &[u8],
+    count: usize,
+) -> bool
+    requires { ⌜ (length (now plate) ≤ 2953) × Indexed (now index) (now book) ⌝ }
+    ensures { λ r. ⌜ r ≡ (textSize (charactersIn size (drop bit (bytesBits (now (plate .entry))))) && isNew (bookTexts (now (book .entry))) (ownTexts count (now (own .entry))) (charactersIn size (drop bit (bytesBits (now (plate .entry)))))) ⌝ }
+{
+    if size == 0 {
+        return false;
+    }
+    if 64 < size {
+        return false;
+    }
+    let mut characters = [0u8; 64];
+    put_characters(plate, bit, size, &mut characters, 0);
+    is_new(index, book, own, count, &characters[..size])
+}
+
+// The size of a text that is spelled out, and the bit behind its ETX.
+pub fn read_spelled(
+    plate: &[u8],
+    at: usize,
+    index: &[u32],
+    book: &[u8],
+    own: &[u8],
+    count: usize,
+) -> Field
+    requires { ⌜ (length (now plate) ≤ 2953) × Indexed (now index) (now book) ⌝ }
+    ensures { λ r. ⌜ sizeRead (now (plate .entry)) at r ≡ spelled (bookTexts (now (book .entry))) (ownTexts count (now (own .entry))) (placeAt (now (plate .entry)) at) ⌝ }
+{
+    let field = read_size(plate, at);
+    let Field::Is(size, _) = field else {
+        return field;
+    };
+    if is_good(plate, at, size, index, book, own, count) {
+        return field;
+    }
+    Field::Refused(Refusal {
+        cause: Cause::Spelling,
+        place: at,
+    })
+}
+
+// The same; a text that is known to be good is not judged again.
+pub fn spelled_at(
+    plate: &[u8],
+    at: usize,
+    index: &[u32],
+    book: &[u8],
+    own: &[u8],
+    count: usize,
+    known: bool,
+) -> Field
+    requires { ⌜ (length (now plate) ≤ 2953) × Indexed (now index) (now book) × Known known (spelled (bookTexts (now book)) (ownTexts count (now own)) (placeAt (now plate) at)) ⌝ }
+    ensures { λ r. ⌜ sizeRead (now (plate .entry)) at r ≡ spelled (bookTexts (now (book .entry))) (ownTexts count (now (own .entry))) (placeAt (now (plate .entry)) at) ⌝ }
+{
+    if known {
+        return read_size(plate, at);
+    }
+    read_spelled(plate, at, index, book, own, count)
+}

@@ -35,10 +35,10 @@ use Rattle.lines.specs.Check.{linesOf}
 use Rattle.lines.proofs.FieldsRead.{ReadAs, as-fault, as-phrase, as-input, as-inputs, as-print, as-printex}
 use Rattle.lines.proofs.FieldsRead.{as-if, as-else, as-fi, as-goto, as-if-skip, line-read-as}
 use Rattle.guide.specs.Lines.{roleOf, inBlock, beginsBy, firstRole, stops, openBehind, pass, bodyLines, linesAt}
-use Rattle.walk_steps.specs.Descend.{Left, Walker, here, follow, next, atElse, behindTrue, leaveTrue, leaveElse, elseBlock, walkIf}
+use Rattle.walk_blocks.specs.Descend.{Left, Walker, here, follow, next, atElse, behindTrue, leaveTrue, leaveElse, elseBlock, walkIf}
 use Rattle.machine.specs.Ranged.{Ranged}
 use Rattle.machine.proofs.Ranges.{ranged-rest}
-use Rattle.walk_steps.specs.Descend.{statementLine, statementWith, blockWith, descend, walkText}
+use Rattle.walk_blocks.specs.Descend.{statementLine, statementWith, blockWith, descend, walkText}
 
 -- ---- what lines and answers still write
 

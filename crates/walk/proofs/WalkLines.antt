@@ -14,9 +14,9 @@ use Rattle.guide.specs.Block.{Block, empty, does, ifThen, ifElse, parsed, parse
 use Rattle.guide.specs.Lines.{firstRole, beginsBy, stops, pass, bodyLines}
 use Rattle.guide.proofs.Blocks.{blockLines, parse-sound}
 use Rattle.walking.specs.Walk.{walk, leave}
-use Rattle.walk_steps.specs.Descend.{Left, Walker, here, follow, next, atElse, leaveTrue, leaveElse, elseBlock, walkIf, statementWith, blockWith, descend}
-use Rattle.walk_steps.proofs.Leaving.{follow-here}
-use Rattle.walk_steps.proofs.Cycle.{descend-ends}
+use Rattle.walk_blocks.specs.Descend.{Left, Walker, here, follow, next, atElse, leaveTrue, leaveElse, elseBlock, walkIf, statementWith, blockWith, descend}
+use Rattle.walk_blocks.proofs.Leaving.{follow-here}
+use Rattle.walk_blocks.proofs.Cycle.{descend-ends}
 
 -- ---- a block passed over
 

@@ -27,9 +27,9 @@ use Rattle.guide.specs.Lines.{linesAt}
 use Rattle.guide.proofs.Accepted.{accepted-guide}
 use Rattle.guide.proofs.Counting.{few-lines}
 use Rattle.walking.specs.Call.{walked, walkCall}
-use Rattle.walk_steps.specs.declared.Walked.{Walked}
-use Rattle.walk_steps.specs.Descend.{descend, walkText}
-use Rattle.walk_steps.specs.Leaves.{Leaves}
+use Rattle.walk_blocks.specs.declared.Walked.{Walked}
+use Rattle.walk_blocks.specs.Descend.{descend, walkText}
+use Rattle.walk_blocks.specs.Leaves.{Leaves}
 use Rattle.walk.proofs.WalkLines.{walk-lines}
 
 -- ---- the walk over the lines, from the start

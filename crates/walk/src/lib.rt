@@ -1,10 +1,8 @@
 // The walker: runs a guide from its text.
 // crate walking says in its specs/Walk.antt what the walk of a block is, and in its specs/Call.antt what the call answers and leaves in the lent
-// buffer; crate walk_steps performs one line.
-// The book is checked, then the guide, and a refusal leaves the buffer as it was. The walk goes from line to line of the guide's text, as
-// walk_steps/specs/Descend.antt says: `block` and `statement` call each other, and a block that is not walked is passed over. It is made once, on the
-// lent buffer, where that is surely long enough; else twice: first on no buffer, to learn the transcript's length.
-mod blocks;
+// buffer; crate walk_blocks walks a block.
+// The book is checked, then the guide, and a refusal leaves the buffer as it was. The walk is made once, on the lent buffer, where that is surely
+// long enough; else twice: first on no buffer, to learn the transcript's length.
 mod passes;
 
 use causes::Cause;

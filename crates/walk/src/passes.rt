@@ -1,9 +1,9 @@
 // The walk, in one pass or two.
-use crate::blocks::block;
 use causes::Cause;
 use causes::Ran;
 use causes::Refusal;
 use transcript::Performed;
+use walk_blocks::block;
 ghost use mathlib.Core.Path.{_≡_};
 ghost use mathlib.Core.List.{List};
 ghost use lib.IntN.{ℤ};
@@ -12,7 +12,7 @@ ghost use Rattle.transcript.specs.Perform.{report};
 ghost use Rattle.transcript.specs.Machine.{laid, performed};
 ghost use Rattle.lines.specs.declared.Form.the-variants.{Guide as aGuide};
 ghost use Rattle.lines.specs.Clean.{Clean};
-ghost use Rattle.walk_steps.specs.Descend.{walkText};
+ghost use Rattle.walk_blocks.specs.Descend.{walkText};
 
 // The walk over a guide's lines, with registers that are all 0 at first: the buffer takes as much of the transcript as it has room for.
 fn produce(guide: &[u8], answers: &[i32], out: &mut [u8]) -> Performed

@@ -1,0 +1,66 @@
+// A line's statement.
+use lines::Head;
+use transcript::Machine;
+use transcript::Performed;
+ghost use mathlib.Core.Path.{_≡_};
+ghost use mathlib.Core.List.{[]};
+ghost use Prim.Native.Nat.{_+_, _<_};
+ghost use lib.ListN.{length, drop, getD};
+ghost use Rattle.text.specs.Parts.{split, comma};
+ghost use Rattle.transcript.specs.Statement.{inputs};
+ghost use Rattle.transcript.specs.Perform as statement;
+ghost use Rattle.transcript.specs.Machine.{machineState, laid, performed};
+ghost use Rattle.walk_blocks.specs.Says.{statementBy, Says};
+
+// inputs: the question with its options, which stand in the line as they do in the C line, and the answer.
+fn offer(
+    line: &[u8],
+    register: usize,
+    options: usize,
+    answers: &[i32],
+    registers: &mut [i32; 32],
+    out: &mut [u8],
+    at: usize,
+    m: Machine,
+) -> Performed
+    requires { ⌜ (register < 32) × (options ≡ length (drop 3 (split comma (now line)))) × (0 < options) × (m .steps < 18446744073709551615) ⌝ }
+    ensures { λ r. ⌜ performed (now (registers .exit)) (now (answers .entry)) r (now (out .exit)) ≡ laid at (statement.perform (inputs register (getD (split comma (now (line .entry))) 2 []) (drop 3 (split comma (now (line .entry))))) (machineState (now (registers .entry)) (now (answers .entry)) m)) (now (out .entry)) ⌝ }
+    ensures { λ r. ⌜ r .machine .steps ≡ m .steps + 1 ⌝ }
+{
+    let a = text::part_start(line, b',', 2);
+    let end = transcript_lines::put_offer(out, at, &line[a..]);
+    let end = transcript_lines::put_end(out, end);
+    statements::choose(out, end, registers, register, options, answers, m)
+}
+
+// The statement of a line with this head.
+pub fn perform(
+    line: &[u8],
+    head: Head,
+    answers: &[i32],
+    registers: &mut [i32; 32],
+    out: &mut [u8],
+    at: usize,
+    m: Machine,
+) -> Performed
+    requires { ⌜ Says head (split comma (now line)) × (m .steps < 18446744073709551615) ⌝ }
+    ensures { λ r. ⌜ performed (now (registers .exit)) (now (answers .entry)) r (now (out .exit)) ≡ laid at (statement.perform (statementBy head (split comma (now (line .entry)))) (machineState (now (registers .entry)) (now (answers .entry)) m)) (now (out .entry)) ⌝ }
+    ensures { λ r. ⌜ r .machine .steps ≡ m .steps + 1 ⌝ }
+{
+    match head {
+        Head::Input { register } => statements::ask(
+            out,
+            at,
+            registers,
+            register,
+            text::part(line, b',', 2),
+            answers,
+            m,
+        ),
+        Head::Inputs { register, options } => {
+            offer(line, register, options, answers, registers, out, at, m)
+        }
+        Head::Print => statements::show(out, at, text::part(line, b',', 1), m),
+        _ => statements::rule(out, at, text::part(line, b',', 1), m),
+    }
+}

@@ -1,4 +1,2 @@
-pub mod LineBytes
-pub mod Pieces
 pub mod LineNeeds
 pub mod Whole

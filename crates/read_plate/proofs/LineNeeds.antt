@@ -16,7 +16,7 @@ use Rattle.instructions.specs.InstructionsAt.{instructionAt, instructionRead}
 use Rattle.instructions.proofs.InstructionAnswers.{instruction-got}
 use Rattle.reader.proofs.Ranges.{Reads, reads-any, reads-return, reads-judged, reads-number, reads-so, reads-then, read-good}
 use Rattle.reader.proofs.Options.{inputs-asked, input-register, test-register}
-use Rattle.read_plate.specs.Lines.{Ready}
+use Rattle.listing_lines.specs.Lines.{Ready}
 
 -- "SKIP 0 to 511"
 reads-skip : (behind : ℕ) → Reads (skip behind) (λ k. k < 512)

@@ -4,9 +4,6 @@
 // instructions are written, each line at the front of the buffer's unwritten tail; an instruction is read again from its bits, and a text is
 // taken where it stands. A buffer that holds the longest listing is written at once; else the listing is made twice: first on no buffer, to
 // learn its length, and then on the lent one.
-mod field;
-mod line;
-mod options;
 mod passes;
 mod phrase_lines;
 

@@ -11,8 +11,7 @@ ghost use Rattle.plate_texts.specs.TextsAt.{Lent};
 ghost use Rattle.instructions.specs.InstructionsAt.{instructionAt};
 ghost use Rattle.reader.specs.Holding.{There, instructionsAt, programAt, Stands};
 ghost use Rattle.listing.specs.Listing.{instructionFields, linesText, listingText};
-ghost use Rattle.read_plate.specs.Lines.{Ready};
-use crate::line::put_instruction;
+ghost use Rattle.listing_lines.specs.Lines.{Ready};
 use crate::phrase_lines::put_phrases;
 use causes::Cause;
 use causes::Refusal;
@@ -20,6 +19,7 @@ use causes::Written;
 use instructions::InstructionAt;
 use instructions::InstructionRead;
 use instructions::accepted_instruction;
+use listing_lines::put_instruction;
 use reader::Contents;
 
 // The line of an instruction at a place of the listing: its tail from there on, which is empty past the buffer's end, takes it.

@@ -9,7 +9,7 @@ use Rattle.phrases.specs.Lookup.{phrasesIn}
 use Rattle.plate.specs.Plate.{instruction}
 use Rattle.reader.specs.Holding.{instructionsAt}
 use Rattle.listing.specs.Listing.{instructionFields, linesText}
-use Rattle.read_plate.proofs.Pieces.{Left, lines-pieces, left-all, left-more, left-none, left-read}
+use Rattle.listing_lines.proofs.Pieces.{Left, lines-pieces, left-all, left-more, left-none, left-read}
 use Rattle.instructions.proofs.InstructionAnswers.{instruction-got, instruction-stopped}
 use Rattle.read_plate.proofs.LineNeeds.{instruction-ready}
 use Rattle.read_plate.proofs.passes.put_instructions.Statement.{statement}

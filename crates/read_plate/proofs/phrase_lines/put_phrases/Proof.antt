@@ -9,7 +9,7 @@ use Rattle.output.specs.Pour.{poured}
 use Rattle.phrases.specs.Lookup.{ownTexts}
 use Rattle.phrases.proofs.Search.{ownFrom, own-whole, own-end, own-none, own-next}
 use Rattle.listing.specs.Listing.{phraseFields, linesText}
-use Rattle.read_plate.proofs.Pieces.{LeftOf, lines-pieces, of-next, of-end}
+use Rattle.listing_lines.proofs.Pieces.{LeftOf, lines-pieces, of-next, of-end}
 use Rattle.read_plate.proofs.phrase_lines.put_phrases.Statement.{statement}
 use Rattle.read_plate.proofs.phrase_lines.put_phrases.Tie as tie
 

@@ -5,15 +5,14 @@ use mathlib.Core.List.{List, _∷_, _++_}
 use mathlib.Core.Bool.{Bool, false}
 use native.Mathlib.Nat.{zero-div}
 use native.Mathlib.Omega.{arith}
-use lib.ListN.{length, drop, getD, replicate, length-drop}
-use lib.Seq.{getD-drop}
+use lib.ListN.{length, replicate}
 use Rattle.output.specs.Pour.{upTo, pour, poured}
-use Rattle.output.proofs.Pour.{pour-length, pour-past, pour-fits}
+use Rattle.output.proofs.Pour.{pour-past}
 use Rattle.output.proofs.Parts.{pour-room}
 use Rattle.output.proofs.Poured.{ended, then-counted}
-use Rattle.bits.specs.Bits.{bitsOf, bytesBits, filled, pack}
+use Rattle.bits.specs.Bits.{bitsOf, bytesBits, filled}
 use Rattle.bits.proofs.Numbers.{length-bitsOf}
-use Rattle.bits.proofs.Bytes.{length-bytesBits, length-pack, filled-whole, drop-bytes, bytes-append, bytes-of-bits}
+use Rattle.bits.proofs.Bytes.{length-bytesBits}
 use Rattle.bits.proofs.Fields.{first-bits}
 
 module _ (old new : List ℕ) (at width value : ℕ) where
@@ -59,20 +58,3 @@ fill bs old x mid last e f h =
     let n : x ≡ length bs = omega (arith, ended 0 bs old x mid e) in
     let all : bs ++ bitsOf ((8 - x % 8) % 8) 0 ≡ filled bs = ap (λ m. bs ++ bitsOf ((8 - m % 8) % 8) 0) n ∙ filled-up bs in
     rw all at (then-counted 0 bs (bitsOf ((8 - x % 8) % 8) 0) old x mid last e f h)
-
--- filled bits that are written at the front are the packed bytes, and the bytes behind them stay
-pub packed : (bs : List Bool) (old new : List ℕ) → ((i : ℕ) → getD old i 0 < 256) → ((i : ℕ) → getD new i 0 < 256)
-    → length (filled bs) ≤ length old * 8 → bytesBits new ≡ pour 0 (filled bs) (bytesBits old)
-    → new ≡ pack bs ++ drop (length (pack bs)) old
-unfolding pack
-packed bs old new ho hn fits e =
-    let n = length (filled bs) / 8 in
-    let rest = drop n old in
-    let whole : length (filled bs) ≡ n * 8 = sym (filled-whole bs) in
-    let behind : drop (length (filled bs)) (bytesBits old) ≡ bytesBits rest = ap (λ k. drop k (bytesBits old)) whole ∙ drop-bytes n old in
-    let bits = rw behind at (e ∙ pour-fits (filled bs) (bytesBits old) (omega (arith, length-bytesBits old))) in
-    let same = ap length e ∙ pour-length 0 (filled bs) (bytesBits old) in
-    let size : length new ≡ n + length rest = omega (arith, length-bytesBits new, length-bytesBits old, length-drop n old) in
-    let kept = bytes-of-bits rest (λ i. rw (getD-drop n old i 0) (ho (n + i))) in
-    let apart = rw (size, bits, bytes-append n (length rest) (filled bs) (bytesBits rest) whole, kept) at (bytes-of-bits new hn) in
-    rw (length-pack bs) (sym apart)

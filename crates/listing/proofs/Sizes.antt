@@ -1,16 +1,15 @@
 -- "At most 327,680 bytes, which no accepted plate exceeds": the text of a program that meets the rules is no longer.
-use Prim.Native.Nat.{ℕ, suc, _+_, _*_, _≤_}
+use Prim.Native.Nat.{_+_, _*_, _≤_}
 use mathlib.Core.Path.{_≡_, refl}
 use mathlib.Core.List.{List, [], _∷_, map}
 use native.Mathlib.Omega.{arith}
 use lib.ListN.{length, length-append, length-map}
-use Rattle.text.specs.Parts.{join, comma}
-use Rattle.text.specs.Text.{Text, isText}
-use Rattle.text.proofs.Valid.{TextsOk}
-use Rattle.text.proofs.Tests.{all-first, all-rest}
+use Rattle.text.specs.Parts.{comma}
+use Rattle.text.specs.Text.{Text}
 use Rattle.decimals.proofs.Decimals.{decimalℕ-short}
 use Rattle.decimals.proofs.Constants.{decimal-short}
 use Rattle.text.proofs.Bytes.{text-size}
+use Rattle.text.proofs.Sizes.{size, join-size, texts-size}
 use Rattle.transcript.specs.Statement.{input, inputs, print, printex}
 use Rattle.transcript.specs.declared.Op.{Op}
 use Rattle.transcript.specs.declared.Op.the-variants.{Eq, Ne, Lt, Le, Gt, Ge}
@@ -21,21 +20,6 @@ use Rattle.plate.specs.Program.{Program}
 use Rattle.plate.proofs.Valid.{ProgramOk}
 use Rattle.listing.specs.Listing.{operatorWord, linesText, listingText}
 use Rattle.listing.proofs.ListingLines.{lineFields, programLines, program-fields, program-ok}
-
--- the bytes of fields, with a comma behind each
-abbrev size : List (List ℕ) → ℕ
-size [] = 0
-size (f ∷ fs) = suc (length f + size fs)
-
-join-size : (x : ℕ) (fs : List (List ℕ)) → length (join x fs) ≤ size fs
-unfolding join
-join-size x [] = omega arith
-join-size x (f ∷ []) = omega arith
-join-size x (f ∷ g ∷ fs) = simp length-append (omega (arith, join-size x (g ∷ fs)))
-
-texts-size : (ts : List Text) → TextsOk ts → size ts ≤ 65 * length ts
-texts-size [] h = omega arith
-texts-size (t ∷ ts) h = omega (arith, text-size t (all-first isText t ts h), texts-size ts (all-rest isText t ts h))
 
 operator-size : (o : Op) → length (operatorWord o) ≡ 2
 operator-size Eq = refl

@@ -15,8 +15,7 @@ use Rattle.text.specs.Parts.{join, comma, LF}
 use Rattle.phrases.specs.declared.Book.the-variants.{Holds as holdsPhrases, Bad}
 use Rattle.phrases.specs.Book.{bookPhrases}
 use Rattle.phrases.specs.Lookup.{bookTexts, bookAnswer, ownTexts, phrasesIn}
-use Rattle.phrases.proofs.Answers.{book-is, book-count-is}
-use Rattle.phrases.proofs.BookValid.{book-ok}
+use Rattle.phrases.proofs.Answers.{book-is}
 use Rattle.plate.specs.Program.{Program}
 use Rattle.plate.specs.Plate.{plateProgram}
 use Rattle.reader.specs.declared.Contents.{Contents}
@@ -68,9 +67,6 @@ pub straight : (new : List ℕ) (n : ℕ) (o out : List ℕ) → (n, o) ≡ pour
 straight new n o out k l h f = whole new n o out k n o out k (omega (arith, ended 0 new out n o k)) f
 
 -- ---- the book and the plate
-
-pub few-phrases : (book : List ℕ) (n : ℕ) → bookAnswer (bookPhrases book) ≡ holdsPhrases n → n ≤ 256
-few-phrases book n e = omega (arith, book-count-is book e, book-ok book (bookTexts book) (book-is book e) .1)
 
 -- "at most 327,680 bytes, which no accepted plate exceeds"
 pub listing-fits : (plate book : List ℕ) (n : ℕ) → bookAnswer (bookPhrases book) ≡ holdsPhrases n → (own : List ℕ) (f : PlateRead)

@@ -1,20 +1,16 @@
 -- No run's transcript is longer than 640 bytes for each instruction: a C line has at most 587, and an A line 14.
 use Prim.Native.Nat.{ℕ, zero, suc, _+_, _*_, _≤_, _<_}
-use mathlib.Core.Path.{_≡_, refl, sym, ap, _∙_}
+use mathlib.Core.Path.{_≡_, ap, _∙_}
 use mathlib.Core.List.{List, [], _∷_}
 use mathlib.Core.Bool.{Bool, true, false, cond}
 use native.Mathlib.Omega.{arith}
-use lib.Dec.{leb}
-use lib.ListN.{length, getD, length-append, List·getD-eq-default}
-use borrow.Author.Tests.{leb-true, leb-false}
-use lib.IntN.{ℤ, pos}
+use lib.ListN.{length, getD, length-append}
+use lib.IntN.{ℤ}
 use lib.Signed.{mag}
-use Rattle.text.specs.Parts.{join, comma}
-use Rattle.text.specs.Text.{Text, isText}
-use Rattle.text.proofs.Valid.{TextsOk}
-use Rattle.text.proofs.Tests.{all-first, all-rest}
+use Rattle.text.specs.Parts.{comma}
 use Rattle.decimals.proofs.Constants.{decimal-short}
 use Rattle.text.proofs.Bytes.{text-size}
+use Rattle.text.proofs.Sizes.{size, join-size, texts-size}
 use Rattle.transcript.specs.Statement.{Statement, input, inputs, print, printex}
 use Rattle.transcript.specs.State.{TranscriptLine, asked, offered, answered, shown, ruled, fieldsOf, lineBytes, transcriptBytes, State, start, step, writeLine}
 use Rattle.transcript.specs.Perform.{Ending, goesOn, verdict, waits, outside, andThen, answer, isOption, takeAnswer, choose, perform, holds, stateOf, report}
@@ -42,21 +38,6 @@ use Rattle.machine.specs.Ranged.{Ranged}
 use Rattle.run.specs.Accepted.{Accepted}
 
 -- ---- a line
-
--- the bytes of fields, with a comma behind each
-abbrev size : List (List ℕ) → ℕ
-size [] = 0
-size (f ∷ fs) = suc (length f + size fs)
-
-join-size : (x : ℕ) (fs : List (List ℕ)) → length (join x fs) ≤ size fs
-unfolding join
-join-size x [] = omega arith
-join-size x (f ∷ []) = omega arith
-join-size x (f ∷ g ∷ fs) = simp length-append (omega (arith, join-size x (g ∷ fs)))
-
-texts-size : (ts : List Text) → TextsOk ts → size ts ≤ 65 * length ts
-texts-size [] h = omega arith
-texts-size (t ∷ ts) h = omega (arith, text-size t (all-first isText t ts h), texts-size ts (all-rest isText t ts h))
 
 line-size : (l : TranscriptLine) → length (lineBytes l) ≤ size (fieldsOf l) + 1
 unfolding lineBytes

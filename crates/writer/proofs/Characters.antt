@@ -3,7 +3,9 @@ use Prim.Native.Nat.{ℕ, _+_, _*_, _%_, _^_, _≤_, _<_}
 use native.Mathlib.Omega.{arith}
 use native.Mathlib.Nat.{mod-lt, lt-of-lt-of-le}
 use mathlib.Core.Path.{_≡_, refl, sym, _∙_}
-use mathlib.Core.List.{_++_, append-assoc}
+use mathlib.Core.List.{List, _++_, append-assoc}
+use mir.Syntax.{w8}
+use mir.Val.{Fits}
 use lib.ListN.{length, drop, getD}
 use lib.Arith.{digits-lt}
 use lib.Pow.{pow-add, pow-mono}
@@ -23,6 +25,16 @@ module _ (t : Text) (i w v : ℕ) where
   -- ETX, as the last one
   pub end-behind : length t ≤ i → bitsOf w v ++ spelledBits (drop i t) ≡ bitsOf (w + 7) (v * 128 + 3)
   end-behind h = rw (spelled-end t i h) (sym (bits-behind w 7 v ETX))
+
+-- eight bytes are below 256 each
+abbrev pub EightBelow : List ℕ → ℕ → Type 0
+EightBelow bytes i =
+    (getD bytes i 0 < 256) × (getD bytes (i + 1) 0 < 256) × (getD bytes (i + 2) 0 < 256) × (getD bytes (i + 3) 0 < 256)
+    × (getD bytes (i + 4) 0 < 256) × (getD bytes (i + 5) 0 < 256) × (getD bytes (i + 6) 0 < 256) × (getD bytes (i + 7) 0 < 256)
+
+pub eight-below : (bytes : List ℕ) (i : ℕ) → ((k : ℕ) → Fits w8 (getD bytes k 0)) → EightBelow bytes i
+eight-below bytes i h =
+    (h i .fits, h (i + 1) .fits, h (i + 2) .fits, h (i + 3) .fits, h (i + 4) .fits, h (i + 5) .fits, h (i + 6) .fits, h (i + 7) .fits)
 
 -- eight characters as one number
 pub eight-next : (t : Text) (i : ℕ) → i + 7 < length t → spelledBits (drop i t)

@@ -1,7 +1,6 @@
 -- `eight` meets its contract: each character is 7 bits of the number, and nothing on the way to it is too large.
 use native.Mathlib.Omega.{arith}
-use Rattle.bits.proofs.Words.{EightBelow, eight-below}
-use Rattle.writer.proofs.Characters.{eight-next}
+use Rattle.writer.proofs.Characters.{EightBelow, eight-below, eight-next}
 use borrow.Author.Needs.{needs}
 use Rattle.writer.proofs.texts.eight.Statement.{statement}
 use Rattle.writer.proofs.texts.eight.Tie as tie

@@ -4,14 +4,14 @@ use native.Mathlib.Omega.{arith}
 use native.Mathlib.Nat.{zero-add}
 use mathlib.Core.Path.{_≡_, refl, sym, ap, _∙_}
 use mathlib.Core.List.{List, [], _∷_, map}
-use mathlib.Core.Bool.{Bool, true, false, true≢false}
+use mathlib.Core.Bool.{true, false, true≢false}
 use mathlib.Core.Option.{Option, none, some}
 use lib.ListN.{length, take, drop, length-drop}
 use lib.Seq.{take-nil, length-take-le}
 use Rattle.text.specs.Parts.{split, partsFrom, untilByte, same, LF, comma}
 use Rattle.text.specs.Text.{Text}
 use Rattle.text.proofs.Places.{parts-whole, parts-none, parts-next, at-front}
-use Rattle.text.proofs.Tests.{same-when, same-equal}
+use Rattle.text.proofs.Tests.{same-when, same-other}
 use Rattle.phrases.specs.Phrases.{oneMore, place}
 use Rattle.phrases.specs.Lookup.{phraseText, ownTexts}
 use Rattle.phrases.proofs.Entries.{until-within}
@@ -92,15 +92,7 @@ module _ (line : List ℕ) (a : ℕ) (k : drop 1 (split comma line) ≡ partsFro
       (omega (arith, until-within comma (drop a line), length-drop a line), e ∙ text-from ∙ rw long refl)
 
   pub no-room : (t : Text) → length line - a < length t → same t (phraseText line) ≡ false
-  no-room t l = go (same t (phraseText line)) refl
-    where
-      go : (v : Bool) → same t (phraseText line) ≡ v → v ≡ false
-      go true e = absurd (omega (arith, stands t (same-equal t (phraseText line) e) .0))
-      go false e = refl
+  no-room t l = same-other t (phraseText line) (λ e. omega (arith, stands t e .0))
 
   pub other-text : (t : Text) → same t (take (length t) (drop a line)) ≡ false → same t (phraseText line) ≡ false
-  other-text t f = go (same t (phraseText line)) refl
-    where
-      go : (v : Bool) → same t (phraseText line) ≡ v → v ≡ false
-      go true e = absurd (true≢false (sym (same-when t (take (length t) (drop a line)) (stands t (same-equal t (phraseText line) e) .1)) ∙ f))
-      go false e = refl
+  other-text t f = same-other t (phraseText line) (λ e. true≢false (sym (same-when t (take (length t) (drop a line)) (stands t e .1)) ∙ f))

@@ -5,12 +5,13 @@ use native.Mathlib.Nat.{zero-add, suc-add}
 use native.Mathlib.Numerals.{add-one, sub-one}
 use mathlib.Core.Path.{_≡_, refl, sym, ap, _∙_}
 use mathlib.Core.List.{List, [], _∷_}
-use mathlib.Core.Bool.{Bool, true, false, cond, _&&_, and-false, and-assoc}
+use mathlib.Core.Bool.{Bool, true, false, cond, _&&_, and-assoc}
 use lib.ListN.{length, take, drop, getD, drop-of-length-le}
 use lib.Seq.{drop-cons, drop-nil, drop-drop, getD-drop}
 use lib.Dec.{eqb, leb, leb·suc-suc}
 use borrow.Author.Tests.{eq-eqb, ne-eqb, le-leb, lt-leb}
 use Rattle.text.specs.Parts.{untilByte, split, onFirst, partsFrom, same, all}
+use Rattle.text.proofs.Tests.{same-other}
 
 -- ---- the first byte x from the place i on
 
@@ -139,11 +140,7 @@ module _ {A : Type 0} (p : A → Bool) where
 -- ---- two texts from the place i on
 
 pub same-short : (s t : List ℕ) → (length s ≡ length t → ⊥) → same s t ≡ false
-unfolding same
-same-short [] [] n = absurd (n refl)
-same-short [] (b ∷ t) n = refl
-same-short (a ∷ s) [] n = refl
-same-short (a ∷ s) (b ∷ t) n = rw (same-short s t (λ e. n (ap suc e)), and-false (eqb a b))
+same-short s t n = same-other s t (λ e. n (ap length e))
 
 module _ (s t : List ℕ) (i : ℕ) where
   pub same-none : length s ≤ i → length t ≤ i → same (drop i s) (drop i t) ≡ true

@@ -2,7 +2,7 @@
 use Prim.Native.Nat.{ℕ, _≤_}
 use mathlib.Core.Path.{_≡_, refl}
 use mathlib.Core.List.{List, [], _∷_, _++_}
-use mathlib.Core.Bool.{Bool, true, _&&_, and-eq-true-iff}
+use mathlib.Core.Bool.{Bool, true, false, _&&_, and-eq-true-iff}
 use lib.Dec.{leb, eqb}
 use borrow.Author.Tests.{leb-true, eqb-true, eq-eqb}
 use Rattle.text.specs.Parts.{all, same}
@@ -60,3 +60,10 @@ same-equal [] [] h = refl
 same-equal [] (b ∷ t) h = cc
 same-equal (a ∷ s) [] h = cc
 same-equal (a ∷ s) (b ∷ t) h = let e = and-parts (eqb a b) (same s t) h in λ i. eqb-true a b (e .0) i ∷ same-equal s t (e .1) i
+
+pub same-other : (s t : List ℕ) → (s ≡ t → ⊥) → same s t ≡ false
+same-other s t n = go (same s t) refl
+  where
+    go : (v : Bool) → same s t ≡ v → v ≡ false
+    go true e = absurd (n (same-equal s t e))
+    go false e = refl

@@ -1,16 +1,17 @@
 -- Reading a number of bits: when it is there, and which it is.
-use Prim.Native.Nat.{ℕ, _+_, _^_, _≤_, _<_}
+use Prim.Native.Nat.{ℕ, _+_, _/_, _^_, _≤_, _<_}
 use mathlib.Core.Path.{_≡_, refl, ap, _∙_}
 use mathlib.Core.List.{List, _++_}
 use mathlib.Core.Bool.{Bool, true, false}
 use native.Mathlib.Omega.{arith}
-use lib.ListN.{length, take, length-append}
+use lib.ListN.{length, take, drop, length-append}
 use lib.Seq.{take-at}
-use lib.Dec.{leb}
-use borrow.Author.Tests.{le-leb, lt-leb, leb-true, leb-false}
+use lib.Dec.{leb, ltb}
+use borrow.Author.Tests.{le-leb, lt-leb, leb-true, leb-false, lt-ltb, le-ltb, ltb-true, ltb-false}
 use Rattle.bits.specs.declared.Number.the-variants.{Is, Ends}
-use Rattle.bits.specs.Bits.{bitsOf, valueOf}
-use Rattle.bits.specs.Number.{numberIn}
+use Rattle.bits.specs.declared.Wide.the-variants as wides
+use Rattle.bits.specs.Bits.{bitsOf, valueOf, bytesBits}
+use Rattle.bits.specs.Number.{numberIn, wideIn}
 use Rattle.bits.proofs.Numbers.{length-bitsOf, value-of-bits, first-below}
 
 -- where there are enough bits
@@ -49,3 +50,25 @@ number-front w v rest h =
     let long = length-bitsOf w v in
     let there = number-in w (bitsOf w v ++ rest) (omega (arith, length-append (bitsOf w v) rest)) in
     there ∙ ap Is (ap valueOf (take-at (bitsOf w v) rest w long) ∙ value-of-bits w v h)
+
+-- ---- 56 bits at once
+
+-- where there are eight bytes
+pub wide-in : (bytes : List ℕ) (at : ℕ) → at / 8 + 7 < length bytes → wideIn bytes at ≡ wides.Is (valueOf (take 56 (drop at (bytesBits bytes))))
+unfolding wideIn
+wide-in bytes at h = rw (lt-ltb (at / 8 + 7) (length bytes) h) refl
+
+-- where there are fewer
+pub wide-none : (bytes : List ℕ) (at : ℕ) → length bytes ≤ at / 8 + 7 → wideIn bytes at ≡ wides.Short
+unfolding wideIn
+wide-none bytes at h = rw (le-ltb (at / 8 + 7) (length bytes) h) refl
+
+pub wide-fits : (bytes : List ℕ) (at v : ℕ) → wideIn bytes at ≡ wides.Is v → at / 8 + 7 < length bytes
+wide-fits bytes at v e = go (ltb (at / 8 + 7) (length bytes)) refl
+  where
+    go : (t : Bool) → ltb (at / 8 + 7) (length bytes) ≡ t → at / 8 + 7 < length bytes
+    go true f = ltb-true (at / 8 + 7) (length bytes) f
+    go false f = let never : _≡_ {A = ℕ} 0 1 = cc (wide-none bytes at (ltb-false (at / 8 + 7) (length bytes) f)) in omega arith
+
+pub wide-is : (bytes : List ℕ) (at v : ℕ) → wideIn bytes at ≡ wides.Is v → v ≡ valueOf (take 56 (drop at (bytesBits bytes)))
+wide-is bytes at v e = cc (wide-in bytes at (wide-fits bytes at v e))

@@ -1,4 +1,4 @@
--- Four and eight bytes as one number, and the number that some of the bits of four are.
+-- Four and eight bytes as one number, and the number that some of their bits are.
 use Prim.Native.Nat.{ℕ, _+_, _-_, _*_, _/_, _%_, _^_, _≤_, _<_}
 use mathlib.Core.Path.{_≡_, sym, ap, _∙_}
 use mathlib.Core.List.{List, _++_}
@@ -62,26 +62,26 @@ word-value bytes i there =
     let place : i * 8 + 32 ≡ (i + 4) * 8 = omega arith in
     sym (rw (drop-drop 32 (i * 8) bits, place) at cut)
 
--- the number that w bits of four bytes are, from the bit `at` on, with the powers of two as numbers at hand
-module _ (bytes : List ℕ) (at w unit values word : ℕ) (few : w ≤ 25) (there : at / 8 + 3 < length bytes) (eu : unit ≡ 2 ^ (32 - at % 8 - w))
-    (ev : values ≡ 2 ^ w) (e : word ≡ valueOf (take 32 (drop (at / 8 * 8) (bytesBits bytes)))) where
-  pub word-below : word / unit % values < 4294967296
-  word-below = rw ev (lt-of-lt-of-le (mod-lt (word / unit) (pow-pos w)) (pow-mono {i = w} {j = 32} (omega arith)))
+-- the number that w of the n bits from a byte on are, from the bit `at` on, with the powers of two as numbers at hand
+module _ (n : ℕ) (bytes : List ℕ) (at w unit values word : ℕ) (few : at % 8 + w ≤ n) (there : at / 8 * 8 + n ≤ length bytes * 8)
+    (eu : unit ≡ 2 ^ (n - at % 8 - w)) (ev : values ≡ 2 ^ w) (e : word ≡ valueOf (take n (drop (at / 8 * 8) (bytesBits bytes)))) where
+  pub word-below : w ≤ 32 → word / unit % values < 4294967296
+  word-below small = rw ev (lt-of-lt-of-le (mod-lt (word / unit) (pow-pos w)) (pow-mono {i = w} {j = 32} small))
 
   pub word-field : word / unit % values ≡ valueOf (take w (drop at (bytesBits bytes)))
   word-field =
       let bits = drop (at / 8 * 8) (bytesBits bytes) in
-      let l = 32 - at % 8 - w in
-      let long : 32 ≤ length bits = omega (arith, length-drop (at / 8 * 8) (bytesBits bytes), length-bytesBits bytes) in
-      let four : bitsOf 32 word ≡ take 32 bits = ap (bitsOf 32) e ∙ bits-of-first 32 bits long in
-      let size = length-bitsOf 32 word in
-      let apart : bits ≡ bitsOf 32 word ++ drop 32 bits = sym (ap (λ x. x ++ drop 32 bits) four ∙ take-append-drop 32 bits) in
-      let parts : at % 8 + w + l ≡ 32 = omega arith in
-      let inner = drop (at % 8) (bitsOf 32 word) in
+      let l = n - at % 8 - w in
+      let long : n ≤ length bits = omega (arith, length-drop (at / 8 * 8) (bytesBits bytes), length-bytesBits bytes) in
+      let same : bitsOf n word ≡ take n bits = ap (bitsOf n) e ∙ bits-of-first n bits long in
+      let size = length-bitsOf n word in
+      let apart : bits ≡ bitsOf n word ++ drop n bits = sym (ap (λ x. x ++ drop n bits) same ∙ take-append-drop n bits) in
+      let parts : at % 8 + w + l ≡ n = omega arith in
+      let inner = drop (at % 8) (bitsOf n word) in
       let place : at / 8 * 8 + at % 8 ≡ at = omega arith in
       let front : take w (drop (at % 8) bits) ≡ take w inner =
-      ap (λ x. take w (drop (at % 8) x)) apart ∙ ap (take w) (drop-append-le (at % 8) (bitsOf 32 word) (drop 32 bits) (omega arith))
-      ∙ take-append-le w inner (drop 32 bits) (omega (arith, length-drop (at % 8) (bitsOf 32 word))) in
+      ap (λ x. take w (drop (at % 8) x)) apart ∙ ap (take w) (drop-append-le (at % 8) (bitsOf n word) (drop n bits) (omega arith))
+      ∙ take-append-le w inner (drop n bits) (omega (arith, length-drop (at % 8) (bitsOf n word))) in
       let whole : take w (drop at (bytesBits bytes)) ≡ take w inner =
-      ap (λ n. take w (drop n (bytesBits bytes))) (sym place) ∙ ap (take w) (sym (drop-drop (at % 8) (at / 8 * 8) (bytesBits bytes))) ∙ front in
+      ap (λ k. take w (drop k (bytesBits bytes))) (sym place) ∙ ap (take w) (sym (drop-drop (at % 8) (at / 8 * 8) (bytesBits bytes))) ∙ front in
       rw (eu, ev) (sym (rw parts at (field-value (at % 8) w l word)) ∙ ap valueOf (sym whole))

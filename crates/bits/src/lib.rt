@@ -1,4 +1,4 @@
-// Numbers of 0 to 32 bits read, and of 0 to 56 bits written, in a byte buffer, at any bit of it, highest bit first.
+// Numbers of 0 to 32 bits or of 56 read, and of 0 to 56 bits written, in a byte buffer, at any bit of it, highest bit first.
 // Reading finds the number, or that the buffer ends inside it. Writing stores each bit that has room, changes no other bit, and
 // returns the place behind the bits, with room or without: a first pass over no buffer at all counts the bits of the whole.
 // specs/Bits.antt says what the bits of numbers and of bytes are, and how they are filled up to whole bytes.
@@ -7,12 +7,18 @@ ghost use Prim.Native.Nat.{_+_, _-_, _*_, _/_, _%_, _^_, _≤_, _<_, min};
 ghost use lib.ListN.{length, take, drop};
 ghost use Rattle.output.specs.Pour.{pour, poured};
 ghost use Rattle.bits.specs.Bits.{bitsOf, valueOf, bytesBits};
-ghost use Rattle.bits.specs.Number.{numberIn};
+ghost use Rattle.bits.specs.Number.{numberIn, wideIn};
 
 // What reading a number finds: the number, or that the plate ends inside it.
 pub enum Number {
     Is(u32),
     Ends,
+}
+
+// What reading 56 bits at once finds: their number, or that fewer than eight bytes are left.
+pub enum Wide {
+    Is(usize),
+    Short,
 }
 
 // A power of two.
@@ -59,6 +65,17 @@ fn word(bytes: &[u8], index: usize) -> usize
     ensures { λ r. ⌜ r ≡ valueOf (take 64 (drop (index * 8) (bytesBits (now (bytes .entry))))) ⌝ }
 {
     half_word(bytes, index) * 4294967296 + half_word(bytes, index + 4)
+}
+
+// The number that 56 bits are, from the bit `at` on, where eight bytes begin at that bit's byte.
+pub fn read_eight(bytes: &[u8], at: usize) -> Wide
+    ensures { λ r. ⌜ r ≡ wideIn (now (bytes .entry)) at ⌝ }
+{
+    let index = at / 8;
+    if index + 7 < bytes.len() {
+        return Wide::Is(word(bytes, index) / two_to(8 - at % 8) % 72057594037927936);
+    }
+    Wide::Short
 }
 
 // The number that `width` bits of the bytes are, from the bit `at` on. Up to 25 bits lie in four bytes, which are read as one number: with

@@ -38,12 +38,12 @@ rem-t13 c = search needs
 cast-t14 : tie.Need-cast-t14
 cast-t14 c =
     let a = c .before .before .before .before .before .before .args in
-    record { fits = word-below (a .bytes .now) (a .at) (a .width) _ _ _ (search needs) (omega arith) (c .before .before .two-to .ensures .0) (c .two-to2 .ensures .0) (c .before .half-word .ensures) }
+    record { fits = word-below 32 (a .bytes .now) (a .at) (a .width) _ _ _ (omega arith) (omega arith) (c .before .before .two-to .ensures .0) (c .two-to2 .ensures .0) (c .before .half-word .ensures) (search needs) }
 
 returns : tie.Need-returns
 returns c =
     let a = c .before .before .before .before .before .before .args in
-    let field = word-field (a .bytes .now) (a .at) (a .width) _ _ _ (search needs) (omega arith) (c .before .before .two-to .ensures .0) (c .two-to2 .ensures .0) (c .before .half-word .ensures) in
+    let field = word-field 32 (a .bytes .now) (a .at) (a .width) _ _ _ (omega arith) (omega arith) (c .before .before .two-to .ensures .0) (c .two-to2 .ensures .0) (c .before .half-word .ensures) in
     ap Is field ∙ sym (number-in (a .width) (drop (a .at) (bytesBits (a .bytes .now))) (simp (length-drop, length-bytesBits) (omega arith)))
 
 read-bytes-requires : tie.Need-read-bytes-requires

@@ -7,3 +7,4 @@ pub mod Answers
 pub mod SignedRead
 pub mod Ops
 pub mod Threes
+pub mod Eights

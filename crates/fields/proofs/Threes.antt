@@ -1,29 +1,21 @@
--- Three characters at once: 21 bits as one number.
-use Prim.Native.Nat.{ℕ, zero, suc, _+_, _-_, _*_, _/_, _%_, _≤_, _<_}
+-- Three characters written at once: 21 bits as one number.
+use Prim.Native.Nat.{ℕ, zero, suc, _+_, _*_, _/_, _%_, _≤_, _<_}
 use mathlib.Core.Path.{_≡_, refl, sym, ap, _∙_}
 use mathlib.Core.List.{List, [], _∷_, _++_}
-use mathlib.Core.Bool.{Bool, true, false, false≢true, _||_}
+use mathlib.Core.Bool.{Bool}
 use native.Mathlib.Nat.{zero-add}
 use native.Mathlib.Omega.{arith}
 use lib.ListN.{length, take, drop, set, length-drop}
 use lib.Seq.{drop-drop}
-use lib.Dec.{eqb}
 use Rattle.output.specs.Pour.{poured}
 use Rattle.output.proofs.Pour.{then, one}
 use Rattle.bits.specs.Bits.{valueOf, bytesBits}
 use Rattle.bits.specs.Number.{numberIn}
 use Rattle.bits.specs.declared.Number.the-variants.{Is}
-use Rattle.bits.proofs.Bytes.{length-bytesBits}
 use Rattle.bits.proofs.Numbers.{first-below}
 use Rattle.bits.proofs.Turns.{value-cut}
-use Rattle.bits.proofs.Reading.{number-in, number-is, number-fits}
-use Rattle.text.specs.Text.{textByte}
-use Rattle.plate.specs.Writing.{ETX}
-use Rattle.plate.specs.Reading.{got, number}
-use Rattle.plate.specs.Plate.{character}
-use Rattle.fields.specs.Places.{placeAt, charactersIn, ThreeAt}
-use Rattle.fields.proofs.Onward.{number-there, judged-got}
-use Rattle.fields.proofs.Characters.{SizeSoFar, size-more}
+use Rattle.bits.proofs.Reading.{number-is, number-fits}
+use Rattle.fields.specs.Places.{charactersIn}
 use Rattle.fields.proofs.CharacterBits.{Passed}
 
 -- ---- the number that 21 bits are
@@ -52,54 +44,6 @@ module _ (bs : List Bool) (v : ℕ) (e : numberIn 21 bs ≡ Is v) where
         third = omega arith;
         below = omega arith;
       }
-
--- ---- three bytes of a text
-
-module _ (plate : List ℕ) (bit v : ℕ) (e : numberIn 21 (drop bit (bytesBits plate)) ≡ Is v) where
-  pub three-there : textByte (v / 16384) ≡ true → textByte (v / 128 % 128) ≡ true → textByte (v % 128) ≡ true → ThreeAt plate bit
-  three-there h1 h2 h3 =
-      let bits = bytesBits plate in
-      let p = parts (drop bit bits) v e in
-      let second : drop 7 (drop bit bits) ≡ drop (bit + 7) bits = drop-drop 7 bit bits in
-      let fourteen : bit + 7 + 7 ≡ bit + 14 = omega arith in
-      let third : drop 7 (drop 7 (drop bit bits)) ≡ drop (bit + 14) bits =
-      ap (drop 7) second ∙ drop-drop 7 (bit + 7) bits ∙ ap (λ k. drop k bits) fourteen in
-      record {
-        room = omega (arith, number-fits 21 (drop bit bits) v e, length-drop bit bits, length-bytesBits plate);
-        first = rw (p .first) at h1;
-        second = rw (p .second, second) at h2;
-        third = rw (p .third, third) at h3;
-      }
-
--- a byte of a text is a character, and not ETX
-or-text : (c : ℕ) → textByte c ≡ true → (eqb c ETX || textByte c) ≡ true
-or-text c h = go (eqb c ETX)
-  where
-    go : (b : Bool) → (b || textByte c) ≡ true
-    go true = refl
-    go false = h
-
-not-end : (c : ℕ) → textByte c ≡ true → c ≡ 3 → ⊥
-not-end c h z = false≢true (rw z at h)
-
-character-there : (plate : List ℕ) (bit : ℕ) → 7 ≤ length plate * 8 - bit → textByte (valueOf (take 7 (drop bit (bytesBits plate)))) ≡ true
-    → got (valueOf (take 7 (drop bit (bytesBits plate)))) (placeAt plate (bit + 7)) ≡ character (placeAt plate bit)
-character-there plate bit room h =
-    let c = valueOf (take 7 (drop bit (bytesBits plate))) in
-    judged-got (number 7) _ _ plate bit
-    (number-there plate bit 7 _
-    (number-in 7 (drop bit (bytesBits plate)) (omega (arith, length-drop bit (bytesBits plate), length-bytesBits plate))))
-    (or-text c h)
-
-pub size-three : {plate : List ℕ} {at size bit : ℕ} → SizeSoFar plate at size bit → ThreeAt plate bit → SizeSoFar plate at (size + 3) (bit + 21)
-size-three {plate} {at} {size} {bit} s t =
-    let fourteen : bit + 7 + 7 ≡ bit + 14 = omega arith in
-    let last : bit + 14 + 7 ≡ bit + 21 = omega arith in
-    let three : size + 1 + 1 + 1 ≡ size + 3 = omega arith in
-    let s1 = size-more s _ _ (character-there plate bit (omega (arith, t .room)) (t .first)) (not-end (valueOf (take 7 (drop bit (bytesBits plate)))) (t .first)) in
-    let s2 = size-more s1 _ _ (character-there plate (bit + 7) (omega (arith, t .room)) (t .second)) (not-end (valueOf (take 7 (drop (bit + 7) (bytesBits plate)))) (t .second)) in
-    let s3 = size-more (rw fourteen at s2) _ _ (character-there plate (bit + 14) (omega (arith, t .room)) (t .third)) (not-end (valueOf (take 7 (drop (bit + 14) (bytesBits plate)))) (t .third)) in
-    rw (three, last) at s3
 
 -- ---- written
 

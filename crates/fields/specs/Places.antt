@@ -1,5 +1,5 @@
 -- What the code's answers stand for: a place of a plate by its bit, and the fields that are read there.
-use Prim.Native.Nat.{ℕ, zero, suc, _+_, _*_, _-_, _≤_}
+use Prim.Native.Nat.{ℕ, zero, suc, _+_, _*_, _-_, _≤_, _<_}
 use mathlib.Core.Path.{_≡_}
 use mathlib.Core.List.{List, [], _∷_}
 use mathlib.Core.Bool.{Bool, true}
@@ -58,12 +58,10 @@ unfoldable pub charactersIn : ℕ → List Bool → Text
 charactersIn zero bs = []
 charactersIn (suc n) bs = valueOf (take 7 bs) ∷ charactersIn n (drop 7 bs)
 
--- three bytes of a text stand at a bit
-pub record ThreeAt (plate : List ℕ) (bit : ℕ) : Type 0 where
-  pub room : 21 ≤ length plate * 8 - bit
-  pub first : textByte (valueOf (take 7 (drop bit (bytesBits plate)))) ≡ true
-  pub second : textByte (valueOf (take 7 (drop (bit + 7) (bytesBits plate)))) ≡ true
-  pub third : textByte (valueOf (take 7 (drop (bit + 14) (bytesBits plate)))) ≡ true
+-- n bytes of a text stand at a bit
+pub record PlainAt (plate : List ℕ) (bit n : ℕ) : Type 0 where
+  pub room : n * 7 ≤ length plate * 8 - bit
+  pub plain : (k : ℕ) → k < n → textByte (valueOf (take 7 (drop (bit + k * 7) (bytesBits plate)))) ≡ true
 
 -- "characters, ETX": all that stand at a place
 abbrev pub untilETX : Reader Text

@@ -3,6 +3,7 @@
 // what a reader of crate plate's specs/Plate.antt finds there: the value, the bit behind it, and in a refusal the cause and its bit.
 // Asked of a caller: a plate of at most 2,953 bytes.
 mod constant;
+mod eight;
 mod numbers;
 mod refusals;
 mod spelling;

@@ -11,9 +11,9 @@ ghost use Rattle.plate.specs.Writing.{ETX};
 ghost use Rattle.plate.specs.Plate.{character};
 ghost use Rattle.fields.specs.Places.{placeAt, fieldRead, sizeRead, untilETX, charactersIn};
 use crate::Field;
+use crate::eight::plain_run;
 use crate::numbers::read_plain;
 use crate::three::put_three;
-use crate::three::three_follow;
 use bits::Number;
 use causes::Cause;
 use causes::Refusal;
@@ -59,16 +59,18 @@ fn read_character(plate: &[u8], at: usize) -> Field
     })
 }
 
-// How many characters stand before ETX, and the bit behind it.
+// How many characters stand before ETX, and the bit behind it: eight characters at once, and those left one by one.
 pub fn read_size(plate: &[u8], at: usize) -> Field
     requires { ⌜ length (now plate) ≤ 2953 ⌝ }
     ensures { λ r. ⌜ sizeRead (now (plate .entry)) at r ≡ untilETX (placeAt (now (plate .entry)) at) ⌝ }
 {
     let mut size = 0;
     let mut bit = at;
-    while three_follow(plate, bit) {
-        size += 3;
-        bit += 21;
+    let mut n = 8;
+    while n == 8 {
+        n = plain_run(plate, bit);
+        size += n;
+        bit += n * 7;
     }
     loop {
         let field = read_character(plate, bit);

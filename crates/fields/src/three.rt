@@ -1,31 +1,12 @@
-// Three characters at once: 21 bits are one number.
+// Three characters written at once: 21 bits are one number.
 ghost use mathlib.Core.Path.{_≡_};
-ghost use mathlib.Core.Bool.{true};
 ghost use Prim.Native.Nat.{_+_, _≤_};
 ghost use lib.ListN.{length, drop};
 ghost use Rattle.output.specs.Pour.{poured};
 ghost use Rattle.bits.specs.Bits.{bytesBits};
-ghost use Rattle.fields.specs.Places.{charactersIn, ThreeAt};
-use crate::spelling::is_plain;
+ghost use Rattle.fields.specs.Places.{charactersIn};
 use crate::spelling::put_each;
 use bits::Number;
-
-// Whether three bytes of a text stand at a bit.
-pub fn three_follow(plate: &[u8], bit: usize) -> bool
-    requires { ⌜ length (now plate) ≤ 2953 ⌝ }
-    ensures { λ r. ⌜ (r ≡ true → ThreeAt (now (plate .entry)) bit) ⌝ }
-{
-    let Number::Is(value) = bits::read_number(plate, bit, 21) else {
-        return false;
-    };
-    let three = value as usize;
-    if is_plain(three / 16384) {
-        if is_plain(three / 128 % 128) {
-            return is_plain(three % 128);
-        }
-    }
-    false
-}
 
 // Three characters from a bit on, as bytes, where the buffer has room for them.
 pub fn put_three(plate: &[u8], bit: usize, out: &mut [u8], at: usize) -> usize

@@ -31,13 +31,14 @@ pub fn read_field(plate: &[u8], at: usize, width: usize, most: usize, cause: Cau
     ensures { λ r. ⌜ fieldRead (now (plate .entry)) r ≡ judged (number width) (λ v. leb v most) cause (placeAt (now (plate .entry)) at) ⌝ }
 {
     let field = read_plain(plate, at, width);
-    let Field::Is(value, _) = field else {
+    let Field::Is(value, next) = field else {
         return field;
     };
     if most < value {
         return Field::Refused(Refusal { cause, place: at });
     }
-    field
+    // Built anew: a copy of the whole answer would be made byte by byte.
+    Field::Is(value, next)
 }
 
 // A skip, over at most so many instructions.

@@ -47,11 +47,11 @@ fn read_character(plate: &[u8], at: usize) -> Field
     ensures { λ r. ⌜ fieldRead (now (plate .entry)) r ≡ character (placeAt (now (plate .entry)) at) ⌝ }
 {
     let field = read_plain(plate, at, 7);
-    let Field::Is(code, _) = field else {
+    let Field::Is(code, next) = field else {
         return field;
     };
     if is_character(code) {
-        return field;
+        return Field::Is(code, next);
     }
     Field::Refused(Refusal {
         cause: Cause::Spelling,

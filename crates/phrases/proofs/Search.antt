@@ -6,8 +6,8 @@ use mathlib.Core.Path.{_≡_, refl, sym, ap, _∙_}
 use mathlib.Core.List.{List, [], _∷_, map}
 use mathlib.Core.Bool.{true, false, true≢false}
 use mathlib.Core.Option.{Option, none, some}
-use lib.ListN.{length, take, drop, length-drop}
-use lib.Seq.{take-nil, length-take-le}
+use lib.ListN.{length, take, drop, getD, length-drop}
+use lib.Seq.{take-nil, length-take-le, getD-take, getD-drop}
 use Rattle.text.specs.Parts.{split, partsFrom, untilByte, same, LF, comma}
 use Rattle.text.specs.Text.{Text}
 use Rattle.text.proofs.Places.{parts-whole, parts-none, parts-next, at-front}
@@ -96,3 +96,9 @@ module _ (line : List ℕ) (a : ℕ) (k : drop 1 (split comma line) ≡ partsFro
 
   pub other-text : (t : Text) → same t (take (length t) (drop a line)) ≡ false → same t (phraseText line) ≡ false
   other-text t f = same-other t (phraseText line) (λ e. true≢false (sym (same-when t (take (length t) (drop a line)) (stands t e .1)) ∙ f))
+
+  pub other-first : (t : Text) → 0 < length t → (getD line a 0 ≡ getD t 0 0 → ⊥) → same t (phraseText line) ≡ false
+  other-first t l f =
+      let z : a + 0 ≡ a = omega arith in
+      let here : getD (take (length t) (drop a line)) 0 0 ≡ getD line a 0 = rw (getD-take (length t) (drop a line) 0 0 l, getD-drop a line 0 0, z) in
+      same-other t (phraseText line) (λ e. f (sym (ap (λ s. getD s 0 0) (stands t e .1) ∙ here)))

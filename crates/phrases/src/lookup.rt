@@ -10,7 +10,8 @@ use crate::index::find_line;
 use crate::index::text_of;
 use crate::numbers::count_of;
 
-// Whether a text is the TEXT of a line `phrase,TEXT`. Where the line does not go on with the text, that field's end is not looked for.
+// Whether a text is the TEXT of a line `phrase,TEXT`. Most lines are left at that field's first byte; where the line does not go on with the
+// text, the field's end is not looked for.
 fn is_phrase(line: &[u8], text: &[u8]) -> bool
     ensures { λ r. ⌜ r ≡ same (now (text .entry)) (phraseText (now (line .entry))) ⌝ }
 {
@@ -18,6 +19,11 @@ fn is_phrase(line: &[u8], text: &[u8]) -> bool
     if a <= line.len() {
         if line.len() - a < text.len() {
             return false;
+        }
+        if 0 < text.len() {
+            if line[a] != text[0] {
+                return false;
+            }
         }
         let e = a + text.len();
         if !text::same(text, &line[a..e]) {

@@ -6,7 +6,7 @@ use lib.ListN.{length}
 use borrow.Author.Needs.{needs}
 use borrow.Author.Tests.{not-true}
 use Rattle.text.specs.Parts.{same}
-use Rattle.phrases.proofs.Search.{no-room, other-text}
+use Rattle.phrases.proofs.Search.{no-room, other-first, other-text}
 use Rattle.phrases.proofs.lookup.is_phrase.Statement.{statement}
 use Rattle.phrases.proofs.lookup.is_phrase.Tie as tie
 
@@ -20,6 +20,18 @@ returns : tie.Need-returns
 returns c =
     let s = c .before .before .before .before .before in
     sym (no-room (s .args .line .now) (c .before .before .part-start .result) (c .before .before .part-start .ensures) (c .before .if1 .taken) (s .args .text .now) (c .if2 .taken))
+
+shared-slice-read-if4 : tie.Need-shared-slice-read-if4
+shared-slice-read-if4 c = search needs
+
+shared-slice-read-if4-2 : tie.Need-shared-slice-read-if4-2
+shared-slice-read-if4-2 c = search needs
+
+returns-2 : tie.Need-returns-2
+returns-2 c =
+    let p = c .before .before .before .before .before .before in
+    let s = p .before .before .before in
+    sym (other-first (s .args .line .now) (p .part-start .result) (p .part-start .ensures) (c .before .before .before .before .before .if1 .taken) (s .args .text .now) (c .before .before .before .if3 .taken) (c .if4 .taken))
 
 add-e : tie.Need-add-e
 add-e c = search needs
@@ -36,13 +48,14 @@ part-same-end c = search needs
 same-requires : tie.Need-same-requires
 same-requires c κs = search needs
 
-returns-2 : tie.Need-returns-2
-returns-2 c =
-    let s = c .before .before .before .before .before .before .before .before in
-    let a = c .before .before .before .before .before .part-start .result in
+returns-3 : tie.Need-returns-3
+returns-3 c =
+    let p = c .before .before .before .before .before .before in
+    let s = p .before .before .before in
+    let a = p .part-start .result in
     let n : a + length (s .args .text .now) - a ≡ length (s .args .text .now) = omega arith in
-    let other = rw n at (sym (c .before .same .ensures) ∙ not-true _ (c .if3 .taken)) in
-    sym (other-text (s .args .line .now) a (c .before .before .before .before .before .part-start .ensures) (c .before .before .before .before .if1 .taken) (s .args .text .now) other)
+    let other = rw n at (sym (c .before .same .ensures) ∙ not-true _ (c .if5 .taken)) in
+    sym (other-text (s .args .line .now) a (p .part-start .ensures) (c .before .before .before .before .before .if1 .taken) (s .args .text .now) other)
 
 part-requires : tie.Need-part-requires
 part-requires c κs = search needs
@@ -50,8 +63,8 @@ part-requires c κs = search needs
 same-requires-2 : tie.Need-same-requires-2
 same-requires-2 c κs = search needs
 
-returns-3 : tie.Need-returns-3
-returns-3 c = c .same2 .ensures ∙ ap (same _) (c .before .part .ensures)
+returns-4 : tie.Need-returns-4
+returns-4 c = c .same2 .ensures ∙ ap (same _) (c .before .part .ensures)
 
 pub is-phrase-spec : {M : Type 1} → statement M
 is-phrase-spec =
@@ -60,12 +73,15 @@ is-phrase-spec =
     part-start-requires
     sub-if2
     returns
+    shared-slice-read-if4
+    shared-slice-read-if4-2
+    returns-2
     add-e
     sub-same
     part-same-start
     part-same-end
     same-requires
-    returns-2
+    returns-3
     part-requires
     same-requires-2
-    returns-3)
+    returns-4)

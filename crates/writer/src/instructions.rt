@@ -54,8 +54,7 @@ pub fn put_input(
     requires { ⌜ (length (now out) ≤ 2953) × Listed (now index) (now book) (now own) count ⌝ }
     ensures { λ r. ⌜ (r, bytesBits (now (out .exit))) ≡ poured at (statementBits (phrasesIn (now (book .entry)) (now (own .entry)) count) (input register (now (text .entry)))) (bytesBits (now (out .entry))) ⌝ }
 {
-    let end = put_code(out, at, 0, register);
-    put_text(out, end, text, index, book, own, count)
+    put_text(out, at, 8, register % 32, text, index, book, own, count)
 }
 
 // How many options more than two an `inputs` line has, from field 3 on.
@@ -83,8 +82,9 @@ pub fn put_inputs(
     requires { ⌜ (length (now out) ≤ 2953) × Listed (now index) (now book) (now own) count ⌝ }
     ensures { λ r. ⌜ (r, bytesBits (now (out .exit))) ≡ poured at (statementBits (phrasesIn (now (book .entry)) (now (own .entry)) count) (inputs register (getD (split comma (now (line .entry))) 2 []) (drop 3 (split comma (now (line .entry)))))) (bytesBits (now (out .entry))) ⌝ }
 {
-    let mut end = put_code(out, at, 1, register);
-    end = put_text(out, end, text::part(line, b',', 2), index, book, own, count);
+    let front = 32 + register % 32;
+    let question = text::part(line, b',', 2);
+    let mut end = put_text(out, at, 8, front, question, index, book, own, count);
     end = bits::put_bits(out, end, 3, options_less_two(line));
     put_texts(out, end, line, 3, index, book, own, count)
 }
@@ -102,8 +102,7 @@ pub fn put_print(
     requires { ⌜ (length (now out) ≤ 2953) × Listed (now index) (now book) (now own) count ⌝ }
     ensures { λ r. ⌜ (r, bytesBits (now (out .exit))) ≡ poured at (statementBits (phrasesIn (now (book .entry)) (now (own .entry)) count) (print (now (text .entry)))) (bytesBits (now (out .entry))) ⌝ }
 {
-    let end = bits::put_bits(out, at, 3, 2);
-    put_text(out, end, text, index, book, own, count)
+    put_text(out, at, 3, 2, text, index, book, own, count)
 }
 
 // A verdict.
@@ -119,8 +118,7 @@ pub fn put_printex(
     requires { ⌜ (length (now out) ≤ 2953) × Listed (now index) (now book) (now own) count ⌝ }
     ensures { λ r. ⌜ (r, bytesBits (now (out .exit))) ≡ poured at (statementBits (phrasesIn (now (book .entry)) (now (own .entry)) count) (printex (now (text .entry)))) (bytesBits (now (out .entry))) ⌝ }
 {
-    let end = bits::put_bits(out, at, 3, 3);
-    put_text(out, end, text, index, book, own, count)
+    put_text(out, at, 3, 3, text, index, book, own, count)
 }
 
 // A goto. The phrases do not matter.

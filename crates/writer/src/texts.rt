@@ -69,53 +69,58 @@ pub fn count_own(own: &[u8], count: usize) -> usize
     n
 }
 
-// What goes before a phrase's place: 10, and where both the book and the own phrases have some, a bit that is 0 for the book and 1 for own.
+// What goes before a phrase's place: `width` bits of a number, then 10, and where both the book and the own phrases have some, a bit that is 0
+// for the book and 1 for own.
 fn put_source(
     out: &mut [u8],
     at: usize,
+    width: usize,
+    front: usize,
     source: usize,
     index: &[u32],
     book: &[u8],
     own: &[u8],
     count: usize,
 ) -> usize
-    requires { ⌜ (length (now out) ≤ 2953) × Listed (now index) (now book) (now own) count ⌝ }
-    ensures { λ r. ⌜ (r, bytesBits (now (out .exit))) ≡ poured at (bitsOf 2 2 ++ ownBit (bookTexts (now (book .entry))) (ownTexts count (now (own .entry))) source) (bytesBits (now (out .entry))) ⌝ }
+    requires { ⌜ (length (now out) ≤ 2953) × (width ≤ 8) × (front < 256) × (source < 2) × Listed (now index) (now book) (now own) count ⌝ }
+    ensures { λ r. ⌜ (r, bytesBits (now (out .exit))) ≡ poured at (bitsOf width front ++ bitsOf 2 2 ++ ownBit (bookTexts (now (book .entry))) (ownTexts count (now (own .entry))) source) (bytesBits (now (out .entry))) ⌝ }
 {
-    let end = bits::put_bits(out, at, 2, 2);
+    let coded = front * 4 + 2;
     if phrases::count_of(index) == 0 {
-        return end;
+        return bits::put_bits(out, at, width + 2, coded);
     }
     if count == 0 {
-        return end;
+        return bits::put_bits(out, at, width + 2, coded);
     }
-    bits::put_bits(out, end, 1, source)
+    bits::put_bits(out, at, width + 3, coded * 2 + source)
 }
 
-// A text: a phrase's place where it is a phrase, else spelled.
+// What goes before a text, `width` bits of a number; then the text: a phrase's place where it is a phrase, else spelled.
 pub fn put_text(
     out: &mut [u8],
     at: usize,
+    width: usize,
+    front: usize,
     text: &[u8],
     index: &[u32],
     book: &[u8],
     own: &[u8],
     count: usize,
 ) -> usize
-    requires { ⌜ (length (now out) ≤ 2953) × Listed (now index) (now book) (now own) count ⌝ }
-    ensures { λ r. ⌜ (r, bytesBits (now (out .exit))) ≡ poured at (textBits (phrasesIn (now (book .entry)) (now (own .entry)) count) (now (text .entry))) (bytesBits (now (out .entry))) ⌝ }
+    requires { ⌜ (length (now out) ≤ 2953) × (width ≤ 8) × (front < 256) × Listed (now index) (now book) (now own) count ⌝ }
+    ensures { λ r. ⌜ (r, bytesBits (now (out .exit))) ≡ poured at (bitsOf width front ++ textBits (phrasesIn (now (book .entry)) (now (own .entry)) count) (now (text .entry))) (bytesBits (now (out .entry))) ⌝ }
 {
     match phrases::find_phrase(index, book, own, count, text) {
         Found::InBook(i) => {
-            let end = put_source(out, at, 0, index, book, own, count);
+            let end = put_source(out, at, width, front, 0, index, book, own, count);
             bits::put_bits(out, end, phrases::width_of(phrases::count_of(index)), i)
         }
         Found::InOwn(i) => {
-            let end = put_source(out, at, 1, index, book, own, count);
+            let end = put_source(out, at, width, front, 1, index, book, own, count);
             bits::put_bits(out, end, phrases::width_of(count), i)
         }
         Found::Nowhere => {
-            let end = bits::put_bits(out, at, 2, 0);
+            let end = bits::put_bits(out, at, width + 2, front * 4);
             put_spelled(out, end, text)
         }
     }
@@ -139,7 +144,7 @@ pub fn put_texts(
     let mut a = text::part_start(line, b',', k);
     while a <= line.len() {
         let e = text::find(line, a, b',');
-        end = put_text(out, end, &line[a..e], index, book, own, count);
+        end = put_text(out, end, 0, 0, &line[a..e], index, book, own, count);
         a = e + 1;
     }
     end

@@ -1,11 +1,12 @@
--- `put_inputs` meets its contract: the fields of the line, one behind the other.
+-- `put_inputs` meets its contract: the fields of the line, one behind the other; the code and the register are one number.
 use borrow.Author.Needs.{needs}
+use Rattle.writer.proofs.Codes.{code-register}
 use Rattle.writer.proofs.Writes.{both}
 use Rattle.writer.proofs.instructions.put_inputs.Statement.{statement}
 use Rattle.writer.proofs.instructions.put_inputs.Tie as tie
 
-put-code-requires : tie.Need-put-code-requires
-put-code-requires c κs = search needs
+add-front : tie.Need-add-front
+add-front c = search needs
 
 part-requires : tie.Need-part-requires
 part-requires c κs = search needs
@@ -29,11 +30,9 @@ returns : tie.Need-returns
 returns c =
     let n = c .before .before .before .before .before .before in
     let t = n .before .before .before .before .before in
-    let r = t .before .before .before .before .before in
-    let start = r .before .before .before .before .before .before .before in
-    let text = rw (t .before .part .ensures) at (t .put-text .ensures) in
+    let start = t .before .before .before .before .before .before .before .before in
+    let question = rw (t .before .before .part .ensures, code-register 1 (start .args .register)) at (t .put-text .ensures) in
     let number = rw (n .before .options-less-two .ensures) at (n .put-bits .ensures) in
-    let question = both _ _ _ _ (r .put-code .ensures) text (start .pre .0) in
     let front = both _ _ _ _ question number (start .pre .0) in
     both _ _ _ _ front (c .before .before .put-texts .ensures) (start .pre .0)
 
@@ -41,7 +40,7 @@ pub put-inputs-spec : {M : Type 1} → statement M
 put-inputs-spec =
     tie.close
     (tie.spec
-    put-code-requires
+    add-front
     part-requires
     put-text-requires
     options-less-two-requires

@@ -1,11 +1,13 @@
 -- `put_text` meets its contract: a place in the book, one among the own phrases, or the characters.
 use native.Mathlib.Omega.{arith}
 use mathlib.Core.Path.{sym, ap, _∙_}
+use mathlib.Core.List.{append-assoc}
 use borrow.Author.Needs.{needs}
 use Rattle.phrases.specs.Phrases.{width}
 use Rattle.phrases.proofs.Answers.{found-is}
 use Rattle.phrases.proofs.Entries.{indexed-count}
 use Rattle.plate.specs.Writing.{textBits}
+use Rattle.writer.proofs.Codes.{spelled-code}
 use Rattle.writer.proofs.Writes.{both}
 use Rattle.writer.proofs.TextBits.{width-fits}
 use Rattle.writer.proofs.texts.put_text.Statement.{statement}
@@ -25,12 +27,12 @@ count-of-requires c κs = search needs
 
 width-of-requires : tie.Need-width-of-requires
 width-of-requires c κs =
-    let listed = c .before .before .before .before .before .before .before .before .before .before .before .before .before .before .before .pre .1 .0 in
+    let listed = c .before .before .before .before .before .before .before .before .before .before .before .before .before .before .before .pre .3 .0 in
     omega (arith, c .count-of .ensures, indexed-count _ _ listed, listed .few)
 
 put-bits-requires : tie.Need-put-bits-requires
 put-bits-requires c κs =
-    let listed = c .before .before .before .before .before .before .before .before .before .before .before .before .before .before .before .before .pre .1 .0 in
+    let listed = c .before .before .before .before .before .before .before .before .before .before .before .before .before .before .before .before .pre .3 .0 in
     rw (c .width-of .ensures) (width-fits _ (omega (arith, c .before .count-of .ensures, indexed-count _ _ listed, listed .few)))
 
 enum-known-i-2 : tie.Need-enum-known-i-2
@@ -47,6 +49,12 @@ put-bits-requires-2 c κs = rw (c .width-of2 .ensures) (width-fits _ (search nee
 
 enum-told : tie.Need-enum-told
 enum-told c = search needs
+
+add-put-bits : tie.Need-add-put-bits
+add-put-bits c = search needs
+
+mul-put-bits : tie.Need-mul-put-bits
+mul-put-bits c = search needs
 
 put-bits-requires-3 : tie.Need-put-bits-requires-3
 put-bits-requires-3 c κs = search needs
@@ -65,8 +73,8 @@ returns c =
     let f = s .before .before .before .before .before in
     let start = f .before .before .before .before .before .before in
     let found = found-is _ _ (sym (f .find-phrase .ensures) ∙ s .before .before .before .i .given .1) in
-    let size = w .width-of .ensures ∙ ap width (w .before .count-of .ensures ∙ sym (indexed-count _ _ (start .pre .1 .0))) in
-    rw found (both _ _ _ _ (s .put-source .ensures) (rw size at (c .before .before .put-bits .ensures)) (start .pre .0))
+    let size = w .width-of .ensures ∙ ap width (w .before .count-of .ensures ∙ sym (indexed-count _ _ (start .pre .3 .0))) in
+    rw found (simp append-assoc (simp append-assoc at (both _ _ _ _ (s .put-source .ensures) (rw size at (c .before .before .put-bits .ensures)) (start .pre .0))))
 
 same-length-2 : tie.Need-same-length-2
 same-length-2 c = search needs
@@ -79,8 +87,8 @@ returns-2 c =
     let f = s .before .before .before .before .before in
     let start = f .before .before .before .before .before .before in
     let found = found-is _ _ (sym (f .find-phrase .ensures) ∙ s .before .before .before .i2 .given .1) in
-    let size = w .width-of2 .ensures ∙ ap width (sym (start .pre .1 .1)) in
-    rw found (both _ _ _ _ (s .put-source2 .ensures) (rw size at (c .before .before .put-bits2 .ensures)) (start .pre .0))
+    let size = w .width-of2 .ensures ∙ ap width (sym (start .pre .3 .1)) in
+    rw found (simp append-assoc (simp append-assoc at (both _ _ _ _ (s .put-source2 .ensures) (rw size at (c .before .before .put-bits2 .ensures)) (start .pre .0))))
 
 same-length-3 : tie.Need-same-length-3
 same-length-3 c = search needs
@@ -90,8 +98,10 @@ unfolding textBits
 returns-3 c =
     let b = c .before .before .before .before .before .before in
     let f = b .before .before .before .before in
+    let start = f .before .before .before .before .before .before in
     let found = found-is _ _ (sym (f .find-phrase .ensures) ∙ b .before .before .enum-told .given .1) in
-    rw found (both _ _ _ _ (b .put-bits3 .ensures) (c .before .before .put-spelled .ensures) (f .before .before .before .before .before .before .pre .0))
+    let code = rw (spelled-code (start .args .width) (start .args .front)) at (b .put-bits3 .ensures) in
+    rw (found, ← append-assoc) (both _ _ _ _ code (c .before .before .put-spelled .ensures) (start .pre .0))
 
 pub put-text-spec : {M : Type 1} → statement M
 put-text-spec =
@@ -108,6 +118,8 @@ put-text-spec =
     width-of-requires-2
     put-bits-requires-2
     enum-told
+    add-put-bits
+    mul-put-bits
     put-bits-requires-3
     put-spelled-requires
     same-length

@@ -3,6 +3,7 @@ use Prim.Native.Nat.{_+_, _-_, _≤_}
 use mathlib.Core.Path.{ap}
 use lib.ListN.{length, drop}
 use borrow.Author.Needs.{needs}
+use Rattle.bits.specs.Bits.{bitsOf}
 use Rattle.text.specs.Parts.{split, partsFrom, comma}
 use Rattle.phrases.specs.Lookup.{phrasesIn}
 use Rattle.plate.specs.Writing.{textsBits}
@@ -46,6 +47,7 @@ loop-less : tie.Need-loop-less Inv-loop μ-loop
 loop-less c = search needs
 
 loop-again : tie.Need-loop-again Inv-loop μ-loop
+unfolding bitsOf
 loop-again c =
     let f = c .before .before .before .before .before in
     let l = f .before .before in

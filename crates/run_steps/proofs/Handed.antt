@@ -7,6 +7,8 @@ use native.Mathlib.Omega.{arith}
 use lib.ListN.{length, take, drop}
 use lib.Dec.{leb}
 use borrow.Author.Tests.{leb-true}
+use Rattle.output.specs.Pour.{poured}
+use Rattle.output.proofs.Poured.{stored}
 use Rattle.bits.specs.Bits.{bytesBits}
 use Rattle.text.specs.Parts.{all}
 use Rattle.text.specs.Text.{isText, textByte, textSize}
@@ -18,7 +20,7 @@ use Rattle.fields.proofs.Copied.{length-characters}
 use Rattle.plate_texts.specs.declared.TextAt.{TextAt}
 use Rattle.plate_texts.specs.declared.TextAt.the-variants.{Spelled, Phrase}
 use Rattle.plate_texts.specs.TextsAt.{textAt}
-use Rattle.run_steps.specs.Texts.{Fits, textIn}
+use Rattle.run_steps.specs.Texts.{Fits, spelledIn, textIn}
 
 module _ (text : TextAt) where
   -- so many characters have room
@@ -46,6 +48,15 @@ module _ (text : TextAt) where
       → textIn book own characters text ≡ textAt plate book own text
   unfolding textAt
   phrase-in plate book own characters h = rw h
+
+  -- ---- what is left in the buffer
+
+  pub spelled-left : (plate old left : List ℕ) {bit size end : ℕ} → text ≡ Spelled bit size
+      → (end, left) ≡ poured 0 (charactersIn size (drop bit (bytesBits plate))) old → left ≡ spelledIn plate text old
+  spelled-left plate old left {bit} {size} {end} h e = rw h (stored 0 (charactersIn size (drop bit (bytesBits plate))) old end left e)
+
+  pub phrase-left : (plate old : List ℕ) {isOwn : Bool} {i : ℕ} → text ≡ Phrase isOwn i → old ≡ spelledIn plate text old
+  phrase-left plate old h = rw h
 
 -- the characters of a text have room
 pub text-fits : (plate book own : List ℕ) (text : TextAt) → TextOk (textAt plate book own text) → Fits text

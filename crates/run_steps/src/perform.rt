@@ -41,7 +41,8 @@ fn put_options<'a>(
         let TextRead::Is(text, next) = read else {
             return end;
         };
-        let characters = spell(plate, text);
+        let mut characters = [0u8; 64];
+        spell(plate, text, &mut characters);
         end = transcript_lines::put_option(out, end, text_of(index, book, own, &characters, text));
         place = next;
         left -= 1;
@@ -110,7 +111,8 @@ pub fn perform<'a>(
     ensures { λ r. ⌜ r .machine .steps ≡ m .steps + 1 ⌝ }
 {
     let place = statement_text(i);
-    let characters = spell(plate, place);
+    let mut characters = [0u8; 64];
+    spell(plate, place, &mut characters);
     let text = text_of(index, book, own, &characters, place);
     match i {
         InstructionAt::Input { register, text: _ } => {

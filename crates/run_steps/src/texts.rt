@@ -5,19 +5,18 @@ ghost use Prim.Native.Nat.{ℕ, _≤_};
 ghost use Rattle.phrases.specs.Index.{Indexed};
 ghost use lib.ListN.{length};
 ghost use Rattle.plate_texts.specs.TextsAt.{textAt};
-ghost use Rattle.run_steps.specs.Texts.{Fits, textIn};
+ghost use Rattle.run_steps.specs.Texts.{Fits, spelledIn, textIn};
 use plate_texts::TextAt;
 
-// The characters of a text that is spelled out.
-pub fn spell(plate: &[u8], text: TextAt) -> [u8; 64]
-    requires { ⌜ (length (now plate) ≤ 2953) × Fits text ⌝ }
-    ensures { λ r. ⌜ ((book own : List ℕ) → textIn book own r text ≡ textAt (now (plate .entry)) book own text) ⌝ }
+// The characters of a text that is spelled out, at the front of the lent buffer. A phrase leaves the buffer as it was.
+pub fn spell(plate: &[u8], text: TextAt, characters: &mut [u8])
+    requires { ⌜ (length (now plate) ≤ 2953) × Fits text × (64 ≤ length (now characters)) ⌝ }
+    ensures { λ _. ⌜ ((book own : List ℕ) → textIn book own (now (characters .exit)) text ≡ textAt (now (plate .entry)) book own text) ⌝ }
+    ensures { λ _. ⌜ now (characters .exit) ≡ spelledIn (now (plate .entry)) text (now (characters .entry)) ⌝ }
 {
-    let mut characters = [0u8; 64];
     if let TextAt::Spelled { bit, size } = text {
-        fields::put_characters(plate, bit, size, &mut characters, 0);
+        fields::put_characters(plate, bit, size, characters, 0);
     }
-    characters
 }
 
 // The text: the characters, or a part of the book or of the own phrases.

@@ -36,14 +36,17 @@ same-length c = search needs
 returns : tie.Need-returns Inv-loop μ-loop
 returns c = absurd (option-there _ _ _ _ _ _ (c .before .before .before .before .loop .inv .0) _ (c .before .before .accepted-text .ensures) (search needs) (c .enum-told .given .1))
 
+slice-aggregate-spell : tie.Need-slice-aggregate-spell Inv-loop μ-loop
+slice-aggregate-spell c = search needs
+
 spell-requires : tie.Need-spell-requires Inv-loop μ-loop
-spell-requires c κs = let o = option-read _ _ _ _ _ _ (c .before .before .before .before .before .loop .inv .0) _ (c .before .before .before .accepted-text .ensures) (search needs) (c .before .read .given .1) in (search needs, text-fits _ _ _ _ (o .good))
+spell-requires c κs = let o = option-read _ _ _ _ _ _ (c .before .before .before .before .before .before .loop .inv .0) _ (c .before .before .before .before .accepted-text .ensures) (search needs) (c .before .before .read .given .1) in (search needs, text-fits _ _ _ _ (o .good), search needs)
 
 slice-aggregate-text-of : tie.Need-slice-aggregate-text-of Inv-loop μ-loop
 slice-aggregate-text-of c = search needs
 
 text-of-requires : tie.Need-text-of-requires Inv-loop μ-loop
-text-of-requires c κs = let o = option-read _ _ _ _ _ _ (c .before .before .before .before .before .before .before .before .loop .inv .0) _ (c .before .before .before .before .before .before .accepted-text .ensures) (search needs) (c .before .before .before .before .read .given .1) in (search needs, text-fits _ _ _ _ (o .good), search needs)
+text-of-requires c κs = let o = option-read _ _ _ _ _ _ (c .before .before .before .before .before .before .before .before .before .before .loop .inv .0) _ (c .before .before .before .before .before .before .before .before .accepted-text .ensures) (search needs) (c .before .before .before .before .before .before .read .given .1) in (search needs, text-fits _ _ _ _ (o .good), search needs)
 
 put-option-requires : tie.Need-put-option-requires Inv-loop μ-loop
 put-option-requires c κs = search needs
@@ -55,8 +58,8 @@ loop-less : tie.Need-loop-less Inv-loop μ-loop
 loop-less c = search needs
 
 loop-again : tie.Need-loop-again Inv-loop μ-loop
-loop-again c = let o = option-read _ _ _ _ _ _ (c .before .before .before .before .before .before .before .before .before .before .before .before .loop .inv .0) _ (c .before .before .before .before .before .before .before .before .before .before .accepted-text .ensures) (search needs) (c .before .before .before .before .before .before .before .before .read .given .1) in
-    (o .others, write-first _ _ _ _ _ _ _ _ _ _ _ _ o (rw (c .before .before .before .text-of .ensures ∙ c .before .before .before .before .before .before .spell .ensures _ _) at (c .before .before .put-option .ensures)) (omega (arith, c .before .before .before .before .before .before .before .before .before .before .before .before .before .before .before .before .before .before .good)) ∙ c .before .before .before .before .before .before .before .before .before .before .before .before .loop .inv .1, search needs, search needs)
+loop-again c = let o = option-read _ _ _ _ _ _ (c .before .before .before .before .before .before .before .before .before .before .before .before .before .before .loop .inv .0) _ (c .before .before .before .before .before .before .before .before .before .before .before .before .accepted-text .ensures) (search needs) (c .before .before .before .before .before .before .before .before .before .before .read .given .1) in
+    (o .others, write-first _ _ _ _ _ _ _ _ _ _ _ _ o (rw (c .before .before .before .text-of .ensures ∙ c .before .before .before .before .before .before .before .spell .ensures .0 _ _) at (c .before .before .put-option .ensures)) (omega (arith, c .before .before .before .before .before .before .before .before .before .before .before .before .before .before .before .before .before .before .before .before .good)) ∙ c .before .before .before .before .before .before .before .before .before .before .before .before .before .before .loop .inv .1, search needs, search needs)
 
 same-length-2 : tie.Need-same-length-2 Inv-loop μ-loop
 same-length-2 c = search needs
@@ -76,6 +79,7 @@ put-options-spec =
     enum-told
     same-length
     returns
+    slice-aggregate-spell
     spell-requires
     slice-aggregate-text-of
     text-of-requires

@@ -1,5 +1,5 @@
 -- The own phrases that were read and written so far, and those behind them.
-use Prim.Native.Nat.{ℕ, suc, _+_, _-_, _≤_, _<_}
+use Prim.Native.Nat.{ℕ, suc, _+_, _*_, _-_, _≤_, _<_}
 use mathlib.Core.Path.{_≡_, refl, sym, ap, _∙_}
 use mathlib.Core.List.{List, [], _∷_, _++_, append-nil, append-assoc}
 use native.Mathlib.Nat.{sub-zero}
@@ -47,7 +47,7 @@ own-start plate book at count own =
     }
 
 module _ {plate book : List ℕ} {at count : ℕ} {old own : List ℕ} {bit end k : ℕ} (s : OwnSoFar plate book at count old own bit end k)
-    (few : k ≤ 32) (room : 2304 ≤ length old) where
+    (room : 72 * k ≤ length old) where
   pub own-texts : ownTexts k own ≡ s .texts
   own-texts =
       let lines = ownLines (s .texts) in

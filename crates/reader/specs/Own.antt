@@ -2,9 +2,10 @@
 use Prim.Native.Nat.{ℕ, zero, suc, _≤_}
 use mathlib.Core.Path.{_≡_}
 use mathlib.Core.List.{List, [], _∷_, _++_}
-use mathlib.Core.Bool.{cond}
-use lib.ListN.{length}
+use mathlib.Core.Bool.{Bool, true, false, cond}
+use lib.ListN.{length, getD}
 use lib.Dec.{leb}
+use Rattle.bits.specs.Bits.{bytesBits}
 use Rattle.text.specs.Quoted.{bytes}
 use Rattle.text.specs.Parts.{LF}
 use Rattle.text.specs.Text.{Text}
@@ -14,6 +15,14 @@ use Rattle.plate.specs.Plate.{spelled, ownCount, ownFrom}
 use Rattle.fields.specs.declared.Field as field
 use Rattle.fields.specs.declared.Field.the-variants as fields
 use Rattle.fields.specs.Places.{placeAt}
+
+-- "One bit: 1 if there are own phrases": whether the first bit of a plate is 1
+unfoldable pub hasOwn : List ℕ → Bool
+hasOwn plate = getD (bytesBits plate) 0 false
+
+-- room for 32 lines of 72 bytes, if a plate has own phrases
+abbrev pub OwnRoom : List ℕ → List ℕ → Type 0
+OwnRoom plate own = hasOwn plate ≡ true → 2304 ≤ length own
 
 -- "`phrase,TEXT`: an own phrase", ended by LF
 unfoldable pub phraseLine : Text → List ℕ

@@ -8,6 +8,7 @@ mod passing;
 mod whole;
 
 use causes::Refusal;
+pub use own::has_own;
 pub use passing::pass_instructions;
 pub use whole::read_contents;
 

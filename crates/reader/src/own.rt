@@ -2,7 +2,7 @@
 // `phrase,TEXT`.
 ghost use mathlib.Core.Path.{_≡_};
 ghost use mathlib.Core.List.{[]};
-ghost use Prim.Native.Nat.{_≤_};
+ghost use Prim.Native.Nat.{_*_, _≤_};
 ghost use lib.ListN.{length, drop};
 ghost use Rattle.output.specs.Pour.{pour, poured};
 ghost use Rattle.bits.specs.Bits.{bytesBits};
@@ -10,11 +10,21 @@ ghost use Rattle.phrases.specs.Lookup.{bookTexts};
 ghost use Rattle.phrases.specs.Index.{Indexed};
 ghost use Rattle.plate.specs.Plate.{ownCount, ownFrom};
 ghost use Rattle.fields.specs.Places.{placeAt, fieldRead, charactersIn};
-ghost use Rattle.reader.specs.Own.{phraseLine, ownPhrases, ownRead, OwnThere, ownLines, ownUntil, ownCounted};
+ghost use Rattle.reader.specs.Own.{hasOwn, OwnRoom, phraseLine, ownPhrases, ownRead, OwnThere, ownLines, ownUntil, ownCounted};
 use fields::Field;
 use fields::put_characters;
 use fields::read_plain;
 use plate_texts::read_spelled;
+
+// Whether a plate has own phrases: its first bit is 1.
+pub fn has_own(plate: &[u8]) -> bool
+    ensures { λ r. ⌜ r ≡ hasOwn (now (plate .entry)) ⌝ }
+{
+    if plate.len() == 0 {
+        return false;
+    }
+    128 <= plate[0]
+}
 
 // How many own phrases there are: a bit, and 5 bits for their number less one.
 fn read_count(plate: &[u8], at: usize) -> Field
@@ -45,7 +55,7 @@ fn put_phrase(plate: &[u8], bit: usize, size: usize, own: &mut [u8], at: usize) 
     text_out::put_byte(own, end, b'\n')
 }
 
-// So many own phrases from a bit on.
+// So many own phrases from a bit on. `own` has room for a line of 72 bytes for each.
 fn read_phrases(
     plate: &[u8],
     at: usize,
@@ -54,7 +64,7 @@ fn read_phrases(
     book: &[u8],
     own: &mut [u8],
 ) -> Field
-    requires { ⌜ (length (now plate) ≤ 2953) × Indexed (now index) (now book) × (count ≤ 32) × (2304 ≤ length (now own)) ⌝ }
+    requires { ⌜ (length (now plate) ≤ 2953) × Indexed (now index) (now book) × (count ≤ 32) × (72 * count ≤ length (now own)) ⌝ }
     ensures { λ r. ⌜ ownRead (now (plate .entry)) (now (own .exit)) r ≡ ownFrom (bookTexts (now (book .entry))) [] count (placeAt (now (plate .entry)) at) ⌝ }
     ensures { λ r. ⌜ OwnThere (now (own .exit)) r ⌝ }
     ensures { λ r. ⌜ now (own .exit) ≡ pour 0 (ownLines (ownUntil (bookTexts (now (book .entry))) [] count (placeAt (now (plate .entry)) at))) (now (own .entry)) ⌝ }
@@ -76,7 +86,7 @@ fn read_phrases(
 
 // The own phrases of a plate, as lines at the front of `own`: those that are read before the first refusal. Nothing else changes there.
 pub fn read_own(plate: &[u8], index: &[u32], book: &[u8], own: &mut [u8]) -> Field
-    requires { ⌜ (length (now plate) ≤ 2953) × Indexed (now index) (now book) × (2304 ≤ length (now own)) ⌝ }
+    requires { ⌜ (length (now plate) ≤ 2953) × Indexed (now index) (now book) × OwnRoom (now plate) (now own) ⌝ }
     ensures { λ r. ⌜ ownRead (now (plate .entry)) (now (own .exit)) r ≡ ownPhrases (bookTexts (now (book .entry))) (placeAt (now (plate .entry)) 0) ⌝ }
     ensures { λ r. ⌜ OwnThere (now (own .exit)) r ⌝ }
     ensures { λ r. ⌜ now (own .exit) ≡ pour 0 (ownLines (ownCounted (bookTexts (now (book .entry))) (ownCount (placeAt (now (plate .entry)) 0)))) (now (own .entry)) ⌝ }

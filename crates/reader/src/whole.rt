@@ -1,7 +1,5 @@
 // A whole plate: the own phrases, the instruction count, the instructions and the filling.
 ghost use mathlib.Core.Path.{_≡_};
-ghost use Prim.Native.Nat.{_≤_};
-ghost use lib.ListN.{length};
 ghost use Rattle.output.specs.Pour.{pour};
 ghost use Rattle.phrases.specs.Lookup.{bookTexts, phrasesIn};
 ghost use Rattle.phrases.specs.Index.{Indexed};
@@ -11,7 +9,7 @@ ghost use Rattle.plate_texts.specs.TextsAt.{Lent};
 ghost use Rattle.reader.specs.declared.Contents as contents;
 ghost use Rattle.reader.specs.declared.PlateRead.the-variants as plates;
 ghost use Rattle.reader.specs.Holding.{programRead, Stands};
-ghost use Rattle.reader.specs.Own.{ownLines, ownStored};
+ghost use Rattle.reader.specs.Own.{OwnRoom, ownLines, ownStored};
 ghost use Rattle.reader.specs.Whole.{restOf};
 use crate::Contents;
 use crate::PlateRead;
@@ -58,9 +56,9 @@ fn read_rest(
 }
 
 // What a plate holds. Its own phrases, or those that are read before the reading stops, are the first lines of `own` afterwards; nothing
-// else changes there. `own` has room for 32 lines of 72 bytes.
+// else changes there. `own` has room for 32 lines of 72 bytes, if the plate has own phrases.
 pub fn read_contents(plate: &[u8], index: &[u32], book: &[u8], own: &mut [u8]) -> PlateRead
-    requires { ⌜ Indexed (now index) (now book) × (2304 ≤ length (now own)) ⌝ }
+    requires { ⌜ Indexed (now index) (now book) × OwnRoom (now plate) (now own) ⌝ }
     ensures { λ r. ⌜ programRead (now (plate .entry)) (now (book .entry)) (now (own .exit)) r ≡ plateProgram (bookTexts (now (book .entry))) (now (plate .entry)) ⌝ }
     ensures { λ r. ⌜ ((c : contents.Contents) → r ≡ plates.Holds c → Stands (now (plate .entry)) (now (index .entry)) (now (book .entry)) (now (own .exit)) c) ⌝ }
     ensures { λ r. ⌜ now (own .exit) ≡ pour 0 (ownLines (ownStored (bookTexts (now (book .entry))) (now (plate .entry)))) (now (own .entry)) ⌝ }

@@ -5,6 +5,7 @@ use Rattle.plate.proofs.OwnPhrases.{gives-count}
 use Rattle.fields.proofs.Onward.{then-got, then-stopped, got-good}
 use Rattle.fields.proofs.Answers.{field-got, field-refused}
 use Rattle.reader.specs.Own.{ownPhrases, ownRead}
+use Rattle.reader.proofs.OwnFirst.{counted-room}
 use Rattle.reader.proofs.OwnSoFar.{own-uncounted, own-counted}
 use Rattle.reader.proofs.OwnAnswers.{none-there}
 use Rattle.reader.proofs.own.read_own.Statement.{statement}
@@ -31,13 +32,11 @@ returns c = (
 )
 
 read-phrases-requires : tie.Need-read-phrases-requires
-read-phrases-requires c κs = (
-  search needs,
-  search needs,
-  got-good _ gives-count (field-got _ _ (c .before .before .before .before .read-count .ensures)
-      (c .before .before .field .given .1)),
-  search needs,
-)
+read-phrases-requires c κs =
+    let counted = field-got _ _ (c .before .before .before .before .read-count .ensures) (c .before .before .field .given .1) in
+    let few = got-good _ gives-count counted in
+    let start = c .before .before .before .before .before .before .before .before .before in
+    (search needs, search needs, few, counted-room _ (start .args .own .now) (start .pre .2) counted few)
 
 same-length : tie.Need-same-length
 same-length c = search needs

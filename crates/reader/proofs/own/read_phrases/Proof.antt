@@ -37,11 +37,11 @@ same-length c = kept _ _ _ _ _ (c .before .before .before .before .before .loop 
 returns : tie.Need-returns Inv-loop μ-loop
 returns c = let s = c .before .before .before .before .before .loop .inv in (
   ap (ownRead _ _) (c .enum-told .given .1)
-      ∙ own-stopped (s .0) (omega arith) (search needs) (c .before .before .before .before .loop-test .taken)
+      ∙ own-stopped (s .0) (omega arith) (c .before .before .before .before .loop-test .taken)
       (answered (sizeRead _ _) refusalOf (c .before .before .read-spelled .ensures) (c .enum-told .given .1)),
   (
     none-there _ _ (c .enum-told .given .1),
-    own-left-stopped (s .0) (omega arith) (search needs) (c .before .before .before .before .loop-test .taken)
+    own-left-stopped (s .0) (omega arith) (c .before .before .before .before .loop-test .taken)
         (answered (sizeRead _ _) refusalOf (c .before .before .read-spelled .ensures) (c .enum-told .given .1)),
   ),
 )
@@ -57,7 +57,7 @@ loop-less c = search needs
 
 loop-again : tie.Need-loop-again Inv-loop μ-loop
 loop-again c = let s = c .before .before .before .before .before .before .before .before .before .before .loop .inv in (
-  own-more (s .0) (omega arith) (search needs)
+  own-more (s .0) (omega arith)
       (c .before .before .before .before .before .before .before .before .before .loop-test .taken) _ _ _ _ (omega arith)
       (size-got _ _ _ (c .before .before .before .before .before .before .before .read-spelled .ensures)
       (c .before .before .before .before .before .field .given .1)) (c .before .before .put-phrase .ensures),
@@ -70,10 +70,10 @@ same-length-2 c = kept _ _ _ _ _ (c .before .loop .inv .0 .written)
 returns-2 : tie.Need-returns-2 Inv-loop μ-loop
 returns-2 c = let s = c .before .loop .inv in
     let e : c .before .loop .k ≡ c .before .before .before .before .before .before .args .count = omega arith in (
-      own-ended (s .0) (omega arith) (search needs) e,
+      own-ended (s .0) (omega arith) e,
       (
-        (search needs, rw e at (own-there (s .0) (omega arith) (search needs))),
-        own-left-ended (s .0) (omega arith) (search needs) e,
+        (search needs, rw e at (own-there (s .0) (omega arith))),
+        own-left-ended (s .0) (omega arith) e,
       ),
     )
 

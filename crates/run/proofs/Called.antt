@@ -8,7 +8,7 @@ use borrow.Author.Tests.{le-leb, lt-leb}
 use Rattle.causes.specs.Answers.{made, Answer, refusing, lent}
 use Rattle.causes.specs.declared.Cause.the-variants.{Book, TooShort}
 use Rattle.causes.specs.declared.Refusal.{Refusal}
-use Rattle.phrases.specs.declared.Book.the-variants.{Holds as holdsPhrases, Bad}
+use Rattle.phrases.specs.declared.Book.the-variants.{Bad}
 use Rattle.phrases.specs.Book.{bookPhrases}
 use Rattle.phrases.specs.Lookup.{bookTexts, bookAnswer}
 use Rattle.phrases.proofs.Answers.{book-is}
@@ -31,25 +31,25 @@ unfolding runCall ran
 call-book plate book answers scratch out line e = rw (book-is book e)
 
 -- the plate has been read with a book that is checked
-module _ (plate book own : List ℕ) (n : ℕ) (e : bookAnswer (bookPhrases book) ≡ holdsPhrases n) (f : PlateRead)
+module _ (plate book own : List ℕ) (e : bookPhrases book ≡ made (bookTexts book)) (f : PlateRead)
     (h : programRead plate book own f ≡ plateProgram (bookTexts book) plate) where
   is-read : (g : PlateRead) → f ≡ g → plateProgram (bookTexts book) plate ≡ programRead plate book own g
   is-read g k = sym h ∙ ap (programRead plate book own) k
 
   pub accepted : (index : List ℕ) (c : Contents) → f ≡ Holds c → ((d : Contents) → f ≡ Holds d → Stands plate index book own d) → Accepted plate index book own c
-  accepted index c k stands = record { phrases = book-is book e; program = is-read (Holds c) k; stands = stands c k }
+  accepted index c k stands = record { phrases = e; program = is-read (Holds c) k; stands = stands c k }
 
   module _ (answers : List ℤ) (scratch : ℕ) (out : List ℕ) where
     pub call-plate : (r : Refusal) → f ≡ Refused r → (refusing (r .cause) (r .place), out) ≡ runCall plate book answers scratch out
     unfolding runCall ran
-    call-plate r k = rw (book-is book e, is-read (Refused r) k)
+    call-plate r k = rw (e, is-read (Refused r) k)
 
     -- "scratch too short": 11
     pub call-scratch : (c : Contents) → f ≡ Holds c → scratch < 512 → (refusing TooShort 0, out) ≡ runCall plate book answers scratch out
     unfolding runCall ran
-    call-scratch c k l = rw (book-is book e, is-read (Holds c) k, lt-leb 512 scratch l)
+    call-scratch c k l = rw (e, is-read (Holds c) k, lt-leb 512 scratch l)
 
     pub call-run : (c : Contents) (y : Answer × List ℕ) → f ≡ Holds c → 512 ≤ scratch
         → y ≡ lent (made (report (run (programAt plate book own c .instructions) 0 (start answers)))) out → y ≡ runCall plate book answers scratch out
     unfolding runCall ran
-    call-run c y k l w = rw (book-is book e, is-read (Holds c) k, le-leb 512 scratch l) w
+    call-run c y k l w = rw (e, is-read (Holds c) k, le-leb 512 scratch l) w

@@ -12,7 +12,7 @@ use Rattle.output.specs.Pour.{poured}
 use Rattle.output.proofs.Pour.{pour-fits, then}
 use Rattle.output.proofs.Poured.{ended, stored}
 use Rattle.text.specs.Parts.{join, comma, LF}
-use Rattle.phrases.specs.declared.Book.the-variants.{Holds as holdsPhrases, Bad}
+use Rattle.phrases.specs.declared.Book.the-variants.{Bad}
 use Rattle.phrases.specs.Book.{bookPhrases}
 use Rattle.phrases.specs.Lookup.{bookTexts, bookAnswer, ownTexts, phrasesIn}
 use Rattle.phrases.proofs.Answers.{book-is}
@@ -69,12 +69,12 @@ straight new n o out k l h f = whole new n o out k n o out k (omega (arith, ende
 -- ---- the book and the plate
 
 -- "at most 327,680 bytes, which no accepted plate exceeds"
-pub listing-fits : (plate book : List ℕ) (n : ℕ) → bookAnswer (bookPhrases book) ≡ holdsPhrases n → (own : List ℕ) (f : PlateRead)
+pub listing-fits : (plate book : List ℕ) → bookPhrases book ≡ made (bookTexts book) → (own : List ℕ) (f : PlateRead)
     → programRead plate book own f ≡ plateProgram (bookTexts book) plate → (c : Contents) → f ≡ Holds c → Bytes plate
     → length (listingText (programAt plate book own c)) ≤ 327680
 unfolding readListing
-listing-fits plate book n e own f k c h bytes =
-    listing-most book plate (listingText (programAt plate book own c)) bytes (rw (book-is book e, ← k, h))
+listing-fits plate book e own f k c h bytes =
+    listing-most book plate (listingText (programAt plate book own c)) bytes (rw (e, ← k, h))
 
 -- what the call leaves
 module _ (plate book out : List ℕ) where
@@ -82,13 +82,13 @@ module _ (plate book out : List ℕ) where
   unfolding readPlateCall readListing
   call-book line e = rw (book-is book e)
 
-  module _ (n : ℕ) (e : bookAnswer (bookPhrases book) ≡ holdsPhrases n) (own : List ℕ) (f : PlateRead)
+  module _ (e : bookPhrases book ≡ made (bookTexts book)) (own : List ℕ) (f : PlateRead)
       (k : programRead plate book own f ≡ plateProgram (bookTexts book) plate) where
     pub call-plate : (r : Refusal) → f ≡ Refused r → (refusing (r .cause) (r .place), out) ≡ readPlateCall plate book out
     unfolding readPlateCall readListing
-    call-plate r h = rw (book-is book e, ← k, h)
+    call-plate r h = rw (e, ← k, h)
 
     pub call-listing : (c : Contents) (y : Answer × List ℕ) → f ≡ Holds c
         → y ≡ lent (made (output (listingText (programAt plate book own c)))) out → y ≡ readPlateCall plate book out
     unfolding readPlateCall readListing
-    call-listing c y h w = rw (book-is book e, ← k, h) w
+    call-listing c y h w = rw (e, ← k, h) w

@@ -1,11 +1,23 @@
--- `read_plate` meets its contract: the book's refusal, the plate's, or what the two passes leave.
-use native.Mathlib.Omega.{arith}
+-- `read_plate` meets its contract: the book's refusal, or the listing with a checked book; an empty book needs no check.
 use mathlib.Core.Path.{sym, _∙_}
-use Rattle.read_plate.proofs.Whole.{call-book, call-plate, call-listing, listing-fits}
-use borrow.Author.Needs.{needs}
 use Rattle.phrases.proofs.Answers.{answer-is}
+use Rattle.phrases.proofs.CheckedBooks.{checked-book, checked-none}
+use Rattle.read_plate.proofs.Whole.{call-book}
+use borrow.Author.Needs.{needs}
 use Rattle.read_plate.proofs.read_plate.Statement.{statement}
 use Rattle.read_plate.proofs.read_plate.Tie as tie
+
+slice-aggregate-read-with : tie.Need-slice-aggregate-read-with
+slice-aggregate-read-with c = search needs
+
+read-with-requires : tie.Need-read-with-requires
+read-with-requires c κs = checked-none _ (c .before .before .if1 .taken)
+
+same-length : tie.Need-same-length
+same-length c = search needs
+
+returns : tie.Need-returns
+returns c = search needs
 
 slice-aggregate-check-book : tie.Need-slice-aggregate-check-book
 slice-aggregate-check-book c = search needs
@@ -19,64 +31,35 @@ enum-known-line c = search needs
 enum-told : tie.Need-enum-told
 enum-told c = search needs
 
-slice-aggregate-read-contents : tie.Need-slice-aggregate-read-contents
-slice-aggregate-read-contents c = search needs
+slice-aggregate-read-with-2 : tie.Need-slice-aggregate-read-with-2
+slice-aggregate-read-with-2 c = search needs
 
-slice-aggregate-read-contents-2 : tie.Need-slice-aggregate-read-contents-2
-slice-aggregate-read-contents-2 c = search needs
-
-read-contents-requires : tie.Need-read-contents-requires
-read-contents-requires c κs = (c .before .before .before .before .before .check-book .ensures .1 _ (c .before .before .enum-told .given .1), search needs)
-
-enum-known-r : tie.Need-enum-known-r
-enum-known-r c = search needs
-
-enum-known-contents : tie.Need-enum-known-contents
-enum-known-contents c = search needs
-
-slice-aggregate-write : tie.Need-slice-aggregate-write
-slice-aggregate-write c = search needs
-
-slice-aggregate-write-2 : tie.Need-slice-aggregate-write-2
-slice-aggregate-write-2 c = search needs
-
-write-requires : tie.Need-write-requires
-write-requires c κs =
-    let holds = c .before .before .before .before .contents .given .1 in (
-      c .before .before .before .before .before .before .before .read-contents .ensures .1 .0 _ holds,
-      listing-fits _ _ _ (sym (answer-is _ _ (c .before .before .before .before .before .before .before .before .before .before .before .before .before .check-book .ensures .0)) ∙ c .before .before .before .before .before .before .before .before .before .before .enum-told .given .1) _ _ (c .before .before .before .before .before .before .before .read-contents .ensures .0) _ holds
-          (λ i. omega (arith, c .before .before .before .before .before .before .before .before .before .before .before .before .before .before .before .before .before .shared-slice-known .given i)),
-    )
-
-returns : tie.Need-returns
-returns c = call-book _ _ _ _ (sym (answer-is _ _ (c .before .before .before .before .check-book .ensures .0)) ∙ c .before .line .given .1)
+read-with-requires-2 : tie.Need-read-with-requires-2
+read-with-requires-2 c κs = checked-book _ _ _ (c .before .before .before .before .before .check-book .ensures .0) (c .before .before .before .before .before .check-book .ensures .1) (c .before .before .enum-told .given .1)
 
 returns-2 : tie.Need-returns-2
-returns-2 c = call-plate _ _ _ _ (sym (answer-is _ _ (c .before .before .before .before .before .before .before .before .before .before .check-book .ensures .0)) ∙ c .before .before .before .before .before .before .before .enum-told .given .1) _ _ (c .before .before .before .before .read-contents .ensures .0) _ (c .before .r .given .1)
+returns-2 c = call-book _ _ _ _ (sym (answer-is _ _ (c .before .before .before .before .check-book .ensures .0)) ∙ c .before .line .given .1)
 
-same-length : tie.Need-same-length
-same-length c = search needs
+same-length-2 : tie.Need-same-length-2
+same-length-2 c = search needs
 
 returns-3 : tie.Need-returns-3
-returns-3 c = call-listing _ _ _ _ (sym (answer-is _ _ (c .before .before .before .before .before .before .before .before .before .before .before .before .before .before .before .before .check-book .ensures .0)) ∙ c .before .before .before .before .before .before .before .before .before .before .before .before .before .enum-told .given .1) _ _ (c .before .before .before .before .before .before .before .before .before .before .read-contents .ensures .0) _ _ (c .before .before .before .before .before .before .before .contents .given .1) (c .before .before .write .ensures)
+returns-3 c = search needs
 
 pub read-plate-spec : {M : Type 1} → statement M
 read-plate-spec =
     tie.close
     (tie.spec
+    slice-aggregate-read-with
+    read-with-requires
+    same-length
+    returns
     slice-aggregate-check-book
     check-book-requires
     enum-known-line
     enum-told
-    slice-aggregate-read-contents
-    slice-aggregate-read-contents-2
-    read-contents-requires
-    enum-known-r
-    enum-known-contents
-    slice-aggregate-write
-    slice-aggregate-write-2
-    write-requires
-    returns
+    slice-aggregate-read-with-2
+    read-with-requires-2
     returns-2
-    same-length
+    same-length-2
     returns-3)

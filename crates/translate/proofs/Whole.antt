@@ -9,7 +9,7 @@ use Rattle.causes.specs.Answers.{made, refused, Answer, refusing}
 use Rattle.causes.specs.declared.Cause.the-variants.{Book}
 use Rattle.causes.specs.declared.Refusal.{Refusal}
 use Rattle.text.specs.Parts.{split, LF}
-use Rattle.phrases.specs.declared.Book.the-variants.{Holds, Bad}
+use Rattle.phrases.specs.declared.Book.the-variants.{Bad}
 use Rattle.phrases.specs.Book.{bookPhrases}
 use Rattle.phrases.specs.Lookup.{bookTexts, bookAnswer, ownTexts}
 use Rattle.phrases.proofs.Answers.{book-is}
@@ -45,10 +45,10 @@ module _ (g book : List ℕ) where
   unfolding translation
   book-refused line e = rw (book-is book e)
 
-  guide-refused : (n : ℕ) (r : Refusal) → bookAnswer (bookPhrases book) ≡ Holds n
+  guide-refused : (r : Refusal) → bookPhrases book ≡ made (bookTexts book)
       → checkedAnswer (seenIn aGuide (bookTexts book) g) ≡ Refused r → translation book g ≡ refused (r .cause) (r .place)
   unfolding translation guideOf
-  guide-refused n r e f = rw (book-is book e, accept-is aGuide g (bookTexts book) f)
+  guide-refused r e f = rw (e, accept-is aGuide g (bookTexts book) f)
 
   -- an accepted guide
   module _ (own instructions : ℕ) (f : checkedAnswer (seenIn aGuide (bookTexts book) g) ≡ Fine own instructions) where
@@ -79,9 +79,9 @@ module _ (g book : List ℕ) where
         ap (λ (p : Program). firstPast (suc (length (ownTexts own g))) (p .instructions)) (sym program-is)
         ∙ fit-none-past (suc (length (ownTexts own g))) (translateBlock (blockOf (linesOf aGuide g))) (block-fits (blockOf (linesOf aGuide g)))
 
-    translated : (n : ℕ) → bookAnswer (bookPhrases book) ≡ Holds n → translation book g ≡ plateSized (plateBytes (bookTexts book) program)
+    translated : bookPhrases book ≡ made (bookTexts book) → translation book g ≡ plateSized (plateBytes (bookTexts book) program)
     unfolding translation guideOf
-    translated n e = rw (book-is book e, accepted) (ap (λ (p : Program). plateSized (plateBytes (bookTexts book) p)) program-is)
+    translated e = rw (e, accepted) (ap (λ (p : Program). plateSized (plateBytes (bookTexts book) p)) program-is)
 
   -- ---- what the call leaves
 
@@ -90,15 +90,15 @@ module _ (g book : List ℕ) where
     unfolding translateCall
     call-book line e = rw (book-refused line e)
 
-    pub call-guide : (n : ℕ) (r : Refusal) → bookAnswer (bookPhrases book) ≡ Holds n
+    pub call-guide : (r : Refusal) → bookPhrases book ≡ made (bookTexts book)
         → checkedAnswer (seenIn aGuide (bookTexts book) g) ≡ Refused r → (refusing (r .cause) (r .place), out) ≡ translateCall g book out
     unfolding translateCall
-    call-guide n r e f = rw (guide-refused n r e f)
+    call-guide r e f = rw (guide-refused r e f)
 
-    pub call-translated : (n own instructions : ℕ) (y : Answer × List ℕ) → bookAnswer (bookPhrases book) ≡ Holds n
+    pub call-translated : (own instructions : ℕ) (y : Answer × List ℕ) → bookPhrases book ≡ made (bookTexts book)
         → checkedAnswer (seenIn aGuide (bookTexts book) g) ≡ Fine own instructions
         → y ≡ lentProgram (bookTexts book) (programIn aGuide (skipTable g) g own) out → y ≡ translateCall g book out
     unfolding translateCall
-    call-translated n own instructions y e f h =
-        rw (translated own instructions f n e)
+    call-translated own instructions y e f h =
+        rw (translated own instructions f e)
         (h ∙ lent-within (bookTexts book) (programIn aGuide (skipTable g) g own) out (none-past own instructions f))

@@ -1,8 +1,8 @@
 // The translator: guide to plate.
 // specs/Translation.antt says which instructions a block is, specs/Call.antt what the call answers and leaves in the lent buffer.
-// The book is checked, then the guide, and a refusal leaves the buffer as it was. The skips are counted first, by recursion into nested
-// blocks, into a table of 512 numbers (specs/Lengths.antt). Then crate assemble makes the plate line by line: an if and an else line take
-// their skip from the table.
+// The book is checked, unless it is empty, then the guide, and a refusal leaves the buffer as it was. The skips are counted first, by
+// recursion into nested blocks, into a table of 512 numbers (specs/Lengths.antt). Then crate assemble makes the plate line by line: an if
+// and an else line take their skip from the table.
 
 mod lengths;
 mod passes;
@@ -16,23 +16,36 @@ use lines::Form;
 use phrases::Book;
 ghost use mathlib.Core.Path.{_≡_};
 ghost use Rattle.causes.specs.Answers.{writtenAnswer};
+ghost use Rattle.phrases.specs.Index.{CheckedBook};
 ghost use Rattle.translate.specs.Call.{translateCall};
 
-// A guide's plate is written into the lent buffer.
+// The plate with a book that is checked.
+fn translate_with(guide: &[u8], index: &[u32], book: &[u8], plate: &mut [u8]) -> Written
+    requires { ⌜ CheckedBook (now index) (now book) ⌝ }
+    ensures { λ r. ⌜ (writtenAnswer r, now (plate .exit)) ≡ translateCall (now (guide .entry)) (now (book .entry)) (now (plate .entry)) ⌝ }
+{
+    match lines::check(Form::Guide, index, book, guide) {
+        Checked::Refused(r) => Written::Refused(r),
+        Checked::Fine { own, instructions } => {
+            passes::write(guide, index, book, own, instructions, plate)
+        }
+    }
+}
+
+// A guide's plate is written into the lent buffer. The index of an empty book is short, so that a small guide clears little.
 pub fn translate(guide: &[u8], book: &[u8], plate: &mut [u8]) -> Written
     ensures { λ r. ⌜ (writtenAnswer r, now (plate .exit)) ≡ translateCall (now (guide .entry)) (now (book .entry)) (now (plate .entry)) ⌝ }
 {
+    if book.len() == 0 {
+        let index = [0u32; 129];
+        return translate_with(guide, &index, book, plate);
+    }
     let mut index = [0u32; 385];
     match phrases::check_book(book, &mut index) {
         Book::Bad(line) => Written::Refused(Refusal {
             cause: Cause::Book,
             place: line,
         }),
-        Book::Holds(_) => match lines::check(Form::Guide, &index, book, guide) {
-            Checked::Refused(r) => Written::Refused(r),
-            Checked::Fine { own, instructions } => {
-                passes::write(guide, &index, book, own, instructions, plate)
-            }
-        },
+        Book::Holds(_) => translate_with(guide, &index, book, plate),
     }
 }

@@ -1,11 +1,23 @@
--- `translate` meets its contract: the refusal of the book, that of the guide, or what the plate's writer leaves.
+-- `translate` meets its contract: the book's refusal, or the plate with a checked book; an empty book needs no check.
 use mathlib.Core.Path.{sym, _∙_}
-use borrow.Author.Needs.{needs}
 use Rattle.phrases.proofs.Answers.{answer-is}
-use Rattle.assemble.proofs.Accepted.{few-bytes, accepted-listed, accepted-counted}
-use Rattle.translate.proofs.Whole.{call-book, call-guide, call-translated}
+use Rattle.phrases.proofs.CheckedBooks.{checked-book, checked-none}
+use Rattle.translate.proofs.Whole.{call-book}
+use borrow.Author.Needs.{needs}
 use Rattle.translate.proofs.translate.Statement.{statement}
 use Rattle.translate.proofs.translate.Tie as tie
+
+slice-aggregate-translate-with : tie.Need-slice-aggregate-translate-with
+slice-aggregate-translate-with c = search needs
+
+translate-with-requires : tie.Need-translate-with-requires
+translate-with-requires c κs = checked-none _ (c .before .before .if1 .taken)
+
+same-length : tie.Need-same-length
+same-length c = search needs
+
+returns : tie.Need-returns
+returns c = search needs
 
 slice-aggregate-check-book : tie.Need-slice-aggregate-check-book
 slice-aggregate-check-book c = search needs
@@ -19,68 +31,35 @@ enum-known-line c = search needs
 enum-told : tie.Need-enum-told
 enum-told c = search needs
 
-slice-aggregate-check : tie.Need-slice-aggregate-check
-slice-aggregate-check c = search needs
+slice-aggregate-translate-with-2 : tie.Need-slice-aggregate-translate-with-2
+slice-aggregate-translate-with-2 c = search needs
 
-check-requires : tie.Need-check-requires
-check-requires c κs =
-    let n = c .before in
-    n .before .before .before .check-book .ensures .1 _ (n .enum-told .given .1)
-
-enum-known-r : tie.Need-enum-known-r
-enum-known-r c = search needs
-
-enum-known-own : tie.Need-enum-known-own
-enum-known-own c = search needs
-
-slice-aggregate-write : tie.Need-slice-aggregate-write
-slice-aggregate-write c = search needs
-
-write-requires : tie.Need-write-requires
-write-requires c κs =
-    let own = c .before .before .before in
-    let n = own .before .before .before .before in
-    let f = sym (own .before .before .check .ensures) ∙ own .own .given .1 in (
-      few-bytes _ _ _ f,
-      accepted-listed _ _ _ f (n .before .before .before .check-book .ensures .1 _ (n .enum-told .given .1)),
-      accepted-counted _ _ _ f _,
-    )
-
-returns : tie.Need-returns
-returns c =
-    call-book _ _ _ _ (sym (answer-is _ _ (c .before .before .before .before .check-book .ensures .0)) ∙ c .before .line .given .1)
+translate-with-requires-2 : tie.Need-translate-with-requires-2
+translate-with-requires-2 c κs = checked-book _ _ _ (c .before .before .before .before .before .check-book .ensures .0) (c .before .before .before .before .before .check-book .ensures .1) (c .before .before .enum-told .given .1)
 
 returns-2 : tie.Need-returns-2
-returns-2 c =
-    let n = c .before .before .before .before .before in
-    let book = sym (answer-is _ _ (n .before .before .before .check-book .ensures .0)) ∙ n .enum-told .given .1 in
-    call-guide _ _ _ _ _ book (sym (c .before .before .before .check .ensures) ∙ c .before .r .given .1)
+returns-2 c = call-book _ _ _ _ (sym (answer-is _ _ (c .before .before .before .before .check-book .ensures .0)) ∙ c .before .line .given .1)
 
-same-length : tie.Need-same-length
-same-length c = search needs
+same-length-2 : tie.Need-same-length-2
+same-length-2 c = search needs
 
 returns-3 : tie.Need-returns-3
-returns-3 c =
-    let n = c .before .before .before .before .before .before .before .before .before .before in
-    let book = sym (answer-is _ _ (n .before .before .before .check-book .ensures .0)) ∙ n .enum-told .given .1 in
-    let own = c .before .before .before .before .before .before in
-    call-translated _ _ _ _ _ _ _ book (sym (own .before .before .check .ensures) ∙ own .own .given .1) (c .before .before .write .ensures)
+returns-3 c = search needs
 
 pub translate-spec : {M : Type 1} → statement M
 translate-spec =
     tie.close
     (tie.spec
+    slice-aggregate-translate-with
+    translate-with-requires
+    same-length
+    returns
     slice-aggregate-check-book
     check-book-requires
     enum-known-line
     enum-told
-    slice-aggregate-check
-    check-requires
-    enum-known-r
-    enum-known-own
-    slice-aggregate-write
-    write-requires
-    returns
+    slice-aggregate-translate-with-2
+    translate-with-requires-2
     returns-2
-    same-length
+    same-length-2
     returns-3)

@@ -15,7 +15,7 @@ use Rattle.lines.specs.Check.{Seen, nothingSeen, next, mostBytes, linesOf, Acce
 use Rattle.lines.specs.Answers.{seenIn, checkedAnswer}
 use Rattle.lines.proofs.Passes.{Passes, passes-check}
 use Rattle.lines.proofs.Accepts.{Accepts, accepts}
-use Rattle.lines.proofs.Answers.{accept-is}
+use Rattle.check_lines.proofs.Answers.{accept-is}
 use Rattle.lines.proofs.CleanTexts.{passes-clean}
 use Rattle.assemble.specs.LineCode.{lineCode, linesCode}
 use Rattle.assemble.specs.Assembled.{Counted}

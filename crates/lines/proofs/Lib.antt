@@ -7,12 +7,6 @@ pub mod KindLines
 pub mod FieldCounts
 pub mod FieldPlaces
 pub mod FieldValues
-pub mod OpenIfs
-pub mod Heads
-pub mod Room
-pub mod OwnFirst
-pub mod LinesPassed
-pub mod Answers
 pub mod FieldBytes
 pub mod CleanLines
 pub mod CleanTexts

@@ -3,5 +3,4 @@ pub mod Check
 pub mod Answers
 pub mod Words
 pub mod Fields
-pub mod Held
 pub mod Clean

@@ -18,7 +18,7 @@ use Rattle.lines.specs.declared.Checked.the-variants.{Fine, Refused}
 use Rattle.lines.specs.Check.{linesOf, Accepted, accept}
 use Rattle.lines.specs.Answers.{seenIn, checkedAnswer}
 use Rattle.lines.proofs.Valid.{lines-ok}
-use Rattle.lines.proofs.Answers.{accept-is}
+use Rattle.check_lines.proofs.Answers.{accept-is}
 use Rattle.plate.specs.Program.{Program}
 use Rattle.plate.specs.Writing.{plateBytes, plateSized}
 use Rattle.listing.specs.Listing.{firstPast}

@@ -24,7 +24,7 @@ fn translate_with(guide: &[u8], index: &[u32], book: &[u8], plate: &mut [u8]) ->
     requires { ⌜ CheckedBook (now index) (now book) ⌝ }
     ensures { λ r. ⌜ (writtenAnswer r, now (plate .exit)) ≡ translateCall (now (guide .entry)) (now (book .entry)) (now (plate .entry)) ⌝ }
 {
-    match lines::check(Form::Guide, index, book, guide) {
+    match check_lines::check(Form::Guide, index, book, guide) {
         Checked::Refused(r) => Written::Refused(r),
         Checked::Fine { own, instructions } => {
             passes::write(guide, index, book, own, instructions, plate)

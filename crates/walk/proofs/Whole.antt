@@ -20,7 +20,7 @@ use Rattle.lines.specs.declared.Form.the-variants.{Guide as aGuide}
 use Rattle.lines.specs.declared.Checked.the-variants.{Fine, Refused}
 use Rattle.lines.specs.Check.{linesOf}
 use Rattle.lines.specs.Answers.{seenIn, checkedAnswer}
-use Rattle.lines.proofs.Answers.{accept-is}
+use Rattle.check_lines.proofs.Answers.{accept-is}
 use Rattle.guide.specs.Block.{blockOf}
 use Rattle.guide.specs.Guide.{guideOf}
 use Rattle.guide.specs.Lines.{linesAt}

@@ -25,7 +25,7 @@ pub fn walk(guide: &[u8], book: &[u8], answers: &[i32], transcript: &mut [u8]) -
             cause: Cause::Book,
             place: line,
         }),
-        Book::Holds(_) => match lines::check(Form::Guide, &index, book, guide) {
+        Book::Holds(_) => match check_lines::check(Form::Guide, &index, book, guide) {
             Checked::Refused(r) => Ran::Refused(r),
             Checked::Fine {
                 own: _,

@@ -12,7 +12,7 @@ use Rattle.phrases.proofs.Answers.{book-is}
 use Rattle.lines.specs.declared.Form.the-variants.{Listing}
 use Rattle.lines.specs.declared.Checked.the-variants.{Fine, Refused}
 use Rattle.lines.specs.Answers.{seenIn, checkedAnswer}
-use Rattle.lines.proofs.Answers.{accept-is}
+use Rattle.check_lines.proofs.Answers.{accept-is}
 use Rattle.listing.specs.Listing.{listingProgram}
 use Rattle.listing.specs.Calls.{writtenPlate, writePlateCall}
 use Rattle.assemble.specs.LineCode.{programIn}

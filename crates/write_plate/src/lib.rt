@@ -18,7 +18,7 @@ fn write_with(listing: &[u8], index: &[u32], book: &[u8], plate: &mut [u8]) -> W
     requires { ⌜ CheckedBook (now index) (now book) ⌝ }
     ensures { λ r. ⌜ (writtenAnswer r, now (plate .exit)) ≡ writePlateCall (now (listing .entry)) (now (book .entry)) (now (plate .entry)) ⌝ }
 {
-    match lines::check(Form::Listing, index, book, listing) {
+    match check_lines::check(Form::Listing, index, book, listing) {
         Checked::Refused(r) => Written::Refused(r),
         Checked::Fine { own, instructions } => assemble::write(
             Form::Listing,

@@ -1,4 +1,4 @@
-// Instructions of a plate: a code, and the fields that it calls for.
+// Instructions of a plate that were read before: a code, and the fields that it calls for. The texts are not judged again.
 ghost use mathlib.Core.Path.{_≡_};
 ghost use mathlib.Core.List.{List};
 ghost use mathlib.Core.Bool.{true};
@@ -19,8 +19,8 @@ use fields::read_plain;
 use fields::read_skip;
 use fields::read_test;
 use plate_texts::TextRead;
-use plate_texts::pass_texts;
-use plate_texts::read_text;
+use plate_texts::accepted_text;
+use plate_texts::texts_end;
 
 // input: register, text.
 fn read_input(
@@ -30,16 +30,15 @@ fn read_input(
     book: &[u8],
     own: &[u8],
     count: usize,
-    known: bool,
 ) -> InstructionRead
-    requires { ⌜ Lent (now plate) (now index) (now book) (now own) count × Known known (fieldsBy (phrasesIn (now book) (now own) count) 0 0 (placeAt (now plate) at)) ⌝ }
+    requires { ⌜ Lent (now plate) (now index) (now book) (now own) count × Known true (fieldsBy (phrasesIn (now book) (now own) count) 0 0 (placeAt (now plate) at)) ⌝ }
     ensures { λ r. ⌜ instructionRead (now (plate .entry)) (now (book .entry)) (now (own .entry)) count r ≡ fieldsBy (phrasesIn (now (book .entry)) (now (own .entry)) count) 0 0 (placeAt (now (plate .entry)) at) ⌝ }
 {
     let first = read_plain(plate, at, 5);
     let Field::Is(register, text_at) = first else {
         return InstructionRead::Refused(first.refusal());
     };
-    let second = read_text(plate, text_at, index, book, own, count, known);
+    let second = accepted_text(plate, text_at, index, book, own, count);
     let TextRead::Is(text, next) = second else {
         return InstructionRead::Refused(second.refusal());
     };
@@ -54,16 +53,15 @@ fn read_inputs(
     book: &[u8],
     own: &[u8],
     count: usize,
-    known: bool,
 ) -> InstructionRead
-    requires { ⌜ Lent (now plate) (now index) (now book) (now own) count × Known known (fieldsBy (phrasesIn (now book) (now own) count) 0 1 (placeAt (now plate) at)) ⌝ }
+    requires { ⌜ Lent (now plate) (now index) (now book) (now own) count × Known true (fieldsBy (phrasesIn (now book) (now own) count) 0 1 (placeAt (now plate) at)) ⌝ }
     ensures { λ r. ⌜ instructionRead (now (plate .entry)) (now (book .entry)) (now (own .entry)) count r ≡ fieldsBy (phrasesIn (now (book .entry)) (now (own .entry)) count) 0 1 (placeAt (now (plate .entry)) at) ⌝ }
 {
     let first = read_plain(plate, at, 5);
     let Field::Is(register, text_at) = first else {
         return InstructionRead::Refused(first.refusal());
     };
-    let second = read_text(plate, text_at, index, book, own, count, known);
+    let second = accepted_text(plate, text_at, index, book, own, count);
     let TextRead::Is(text, number_at) = second else {
         return InstructionRead::Refused(second.refusal());
     };
@@ -72,10 +70,7 @@ fn read_inputs(
         return InstructionRead::Refused(third.refusal());
     };
     let options = less + 2;
-    let last = pass_texts(plate, bit, options, index, book, own, count, known);
-    let Field::Is(_, next) = last else {
-        return InstructionRead::Refused(last.refusal());
-    };
+    let next = texts_end(plate, bit, options, index, book, own, count);
     InstructionRead::Is(
         InstructionAt::Inputs {
             register,
@@ -95,12 +90,11 @@ fn read_print(
     book: &[u8],
     own: &[u8],
     count: usize,
-    known: bool,
 ) -> InstructionRead
-    requires { ⌜ Lent (now plate) (now index) (now book) (now own) count × Known known (fieldsBy (phrasesIn (now book) (now own) count) 0 2 (placeAt (now plate) at)) ⌝ }
+    requires { ⌜ Lent (now plate) (now index) (now book) (now own) count × Known true (fieldsBy (phrasesIn (now book) (now own) count) 0 2 (placeAt (now plate) at)) ⌝ }
     ensures { λ r. ⌜ instructionRead (now (plate .entry)) (now (book .entry)) (now (own .entry)) count r ≡ fieldsBy (phrasesIn (now (book .entry)) (now (own .entry)) count) 0 2 (placeAt (now (plate .entry)) at) ⌝ }
 {
-    let first = read_text(plate, at, index, book, own, count, known);
+    let first = accepted_text(plate, at, index, book, own, count);
     let TextRead::Is(text, next) = first else {
         return InstructionRead::Refused(first.refusal());
     };
@@ -115,12 +109,11 @@ fn read_printex(
     book: &[u8],
     own: &[u8],
     count: usize,
-    known: bool,
 ) -> InstructionRead
-    requires { ⌜ Lent (now plate) (now index) (now book) (now own) count × Known known (fieldsBy (phrasesIn (now book) (now own) count) 0 3 (placeAt (now plate) at)) ⌝ }
+    requires { ⌜ Lent (now plate) (now index) (now book) (now own) count × Known true (fieldsBy (phrasesIn (now book) (now own) count) 0 3 (placeAt (now plate) at)) ⌝ }
     ensures { λ r. ⌜ instructionRead (now (plate .entry)) (now (book .entry)) (now (own .entry)) count r ≡ fieldsBy (phrasesIn (now (book .entry)) (now (own .entry)) count) 0 3 (placeAt (now (plate .entry)) at) ⌝ }
 {
-    let first = read_text(plate, at, index, book, own, count, known);
+    let first = accepted_text(plate, at, index, book, own, count);
     let TextRead::Is(text, next) = first else {
         return InstructionRead::Refused(first.refusal());
     };
@@ -155,51 +148,7 @@ fn read_if(plate: &[u8], at: usize, behind: usize) -> InstructionRead
     InstructionRead::Is(InstructionAt::IfSkip { test, skip }, next)
 }
 
-// An instruction with so many behind it; whether it is known to be good.
-fn read_any(
-    plate: &[u8],
-    at: usize,
-    behind: usize,
-    index: &[u32],
-    book: &[u8],
-    own: &[u8],
-    count: usize,
-    known: bool,
-) -> InstructionRead
-    requires { ⌜ Lent (now plate) (now index) (now book) (now own) count × Known known (instruction (phrasesIn (now book) (now own) count) behind (placeAt (now plate) at)) ⌝ }
-    ensures { λ r. ⌜ instructionRead (now (plate .entry)) (now (book .entry)) (now (own .entry)) count r ≡ instruction (phrasesIn (now (book .entry)) (now (own .entry)) count) behind (placeAt (now (plate .entry)) at) ⌝ }
-{
-    let field = read_field(plate, at, 3, 5, Cause::Unused);
-    let Field::Is(code, next) = field else {
-        return InstructionRead::Refused(field.refusal());
-    };
-    match code {
-        0 => read_input(plate, next, index, book, own, count, known),
-        1 => read_inputs(plate, next, index, book, own, count, known),
-        2 => read_print(plate, next, index, book, own, count, known),
-        3 => read_printex(plate, next, index, book, own, count, known),
-        4 => read_goto(plate, next, behind),
-        _ => read_if(plate, next, behind),
-    }
-}
-
 // An instruction with so many behind it.
-pub fn read_instruction(
-    plate: &[u8],
-    at: usize,
-    behind: usize,
-    index: &[u32],
-    book: &[u8],
-    own: &[u8],
-    count: usize,
-) -> InstructionRead
-    requires { ⌜ Lent (now plate) (now index) (now book) (now own) count ⌝ }
-    ensures { λ r. ⌜ instructionRead (now (plate .entry)) (now (book .entry)) (now (own .entry)) count r ≡ instruction (phrasesIn (now (book .entry)) (now (own .entry)) count) behind (placeAt (now (plate .entry)) at) ⌝ }
-{
-    read_any(plate, at, behind, index, book, own, count, false)
-}
-
-// The same, where the instruction was read before: its texts are not judged again.
 pub fn accepted_instruction(
     plate: &[u8],
     at: usize,
@@ -212,5 +161,16 @@ pub fn accepted_instruction(
     requires { ⌜ Lent (now plate) (now index) (now book) (now own) count × Known true (instruction (phrasesIn (now book) (now own) count) behind (placeAt (now plate) at)) ⌝ }
     ensures { λ r. ⌜ instructionRead (now (plate .entry)) (now (book .entry)) (now (own .entry)) count r ≡ instruction (phrasesIn (now (book .entry)) (now (own .entry)) count) behind (placeAt (now (plate .entry)) at) ⌝ }
 {
-    read_any(plate, at, behind, index, book, own, count, true)
+    let field = read_field(plate, at, 3, 5, Cause::Unused);
+    let Field::Is(code, next) = field else {
+        return InstructionRead::Refused(field.refusal());
+    };
+    match code {
+        0 => read_input(plate, next, index, book, own, count),
+        1 => read_inputs(plate, next, index, book, own, count),
+        2 => read_print(plate, next, index, book, own, count),
+        3 => read_printex(plate, next, index, book, own, count),
+        4 => read_goto(plate, next, behind),
+        _ => read_if(plate, next, behind),
+    }
 }

@@ -3,11 +3,12 @@
 // specs/InstructionsAt.antt, for what a reader of crate plate's specs/Plate.antt finds there.
 // Asked of a caller (crate plate_texts' `Lent`): a plate of at most 2,953 bytes, the index of the book, and own phrases that are there.
 mod instruction_at;
+mod passing;
 mod refusals;
 
 use causes::Refusal;
 pub use instruction_at::accepted_instruction;
-pub use instruction_at::read_instruction;
+pub use passing::pass_instruction;
 use plate_texts::TextAt;
 use transcript::Test;
 

@@ -1,6 +1,6 @@
 -- A phrase by its place, as the code reads it.
-use Prim.Native.Nat.{ℕ, zero, suc, _-_, _≤_, _<_}
-use mathlib.Core.Path.{_≡_, sym, ap, _∙_}
+use Prim.Native.Nat.{ℕ, zero, suc, _+_, _-_, _≤_, _<_}
+use mathlib.Core.Path.{_≡_, refl, sym, ap, _∙_}
 use mathlib.Core.List.{List, []}
 use mathlib.Core.Bool.{Bool, true, false, cond}
 use native.Mathlib.Numerals.{sub-one}
@@ -8,6 +8,7 @@ use native.Mathlib.Omega.{arith}
 use lib.ListN.{length, getD}
 use lib.Dec.{leb, ltb, leb·suc-suc}
 use borrow.Author.Tests.{ltb-true}
+use Rattle.causes.specs.declared.Cause.{Cause}
 use Rattle.causes.specs.declared.Cause.the-variants.{Unused}
 use Rattle.text.specs.Text.{Text}
 use Rattle.phrases.specs.Phrases.{width}
@@ -18,10 +19,14 @@ use Rattle.phrases.proofs.Texts.{phrase-in-own, phrase-in-book}
 use Rattle.fields.specs.declared.Field.{Field}
 use Rattle.fields.specs.declared.Field.the-variants.{Is, Refused}
 use Rattle.plate_texts.specs.declared.TextRead.{TextRead}
-use Rattle.plate.specs.Reading.{got, Reader, number, judged, return}
-use Rattle.plate.specs.Plate.{phraseAt}
-use Rattle.fields.specs.Places.{placeAt, fieldRead}
-use Rattle.plate_texts.specs.TextsAt.{textAt, textsRead, phraseOf, Lent}
+use Rattle.plate.specs.Reading.{Place, got, stopped, Reader, number, judged, return}
+use Rattle.plate.specs.Plate.{phraseAt, phrase}
+use Rattle.fields.specs.Places.{placeAt, fieldRead, endWith}
+use Rattle.plate_texts.specs.declared.phrase_place.Source.{Source}
+use Rattle.plate_texts.specs.Sources.{source, sourceRead}
+use Rattle.plate_texts.specs.TextsAt.{textAt, textsRead, phraseOf, Lent, Known}
+use Rattle.plate_texts.proofs.SourceRead.{by-source, Sourced, sourced}
+use Rattle.plate_texts.proofs.Known.{known-same, known-first, known-then, known-judged}
 use Rattle.plate.proofs.Readers.{gives-number, gives-judged}
 use Rattle.fields.proofs.Onward.{then-got, then-stopped, judged-alike, got-good}
 
@@ -64,3 +69,48 @@ module _ (plate book own : List ℕ) (at count n : ℕ) (f : Field) (r : TextRea
       rw k (phrase-there plate book own at true (ownTexts count own) (λ i h. phrase-in-own book own i count (omega arith)) f (rw z at e))
   place-there false z k =
       rw k (phrase-there plate book own at false (bookTexts book) (λ i h. phrase-in-book book own i h) f (rw z at e))
+
+-- ---- a phrase by its source
+
+module _ {plate index book own : List ℕ} {count : ℕ} (l : Lent plate index book own count) (at : ℕ) where
+  abbrev here : Place
+  here = placeAt plate at
+
+  abbrev sources : Reader (Bool × ℕ)
+  sources = source (length (bookTexts book)) (length (ownTexts count own))
+
+  -- the source is one of the book's texts and of the own ones
+  pub source-of : (texts : ℕ) (r : Source) → texts ≡ getD index 0 0 → sourceRead plate r ≡ source texts count here → sourceRead plate r ≡ sources here
+  source-of texts r t e = e ∙ (λ i. source ((t ∙ book-count l) i) (sym (l .whole) i) here)
+
+  pub source-stopped : {cause : Cause} {bit : ℕ} → stopped cause bit ≡ sources here
+      → stopped cause bit ≡ phrase (bookTexts book) (ownTexts count own) here
+  source-stopped e = then-stopped _ (λ s. phraseAt (cond (s .0) (ownTexts count own) (bookTexts book))) here e ∙ by-source (bookTexts book) (ownTexts count own) here
+
+  module _ (isOwn : Bool) (n next : ℕ) (e : got (isOwn, n) (placeAt plate next) ≡ sources here) where
+    pub source-good : 0 < getD index 0 0 + count → Sourced (bookTexts book) (ownTexts count own) isOwn n
+    source-good h = sourced _ _ _ (omega (arith, h, book-count l, l .whole)) (l .indexed .few) (omega (arith, l .few, l .whole)) e
+
+    module _ (s : Sourced (bookTexts book) (ownTexts count own) isOwn n) where
+      -- the phrase at a place that the code read and judged
+      pub phrase-read : (f : Field) → fieldRead plate f ≡ judged (number (width n)) (λ i. ltb i n) Unused (placeAt plate next)
+          → textsRead plate book own (phraseOf f isOwn) ≡ phrase (bookTexts book) (ownTexts count own) here
+      phrase-read f j = place-there plate book own next count n f (phraseOf f isOwn) j (l .whole) isOwn (s .all) refl
+          ∙ then-got _ (λ s. phraseAt (cond (s .0) (ownTexts count own) (bookTexts book))) here e
+          ∙ by-source (bookTexts book) (ownTexts count own) here
+
+      -- where the phrase is known to be good, its place need not be judged
+      pub place-known : Known true (phrase (bookTexts book) (ownTexts count own) here)
+          → number (width n) (placeAt plate next) ≡ judged (number (width n)) (λ i. ltb i n) Unused (placeAt plate next)
+      unfolding phraseAt
+      place-known w =
+          rw (s .all) (known-judged (number (width (length (cond isOwn (ownTexts count own) (bookTexts book))))) _ Unused plate next
+          (known-first _ _ _
+          (known-then _ (λ s. phraseAt (cond (s .0) (ownTexts count own) (bookTexts book))) here
+          (known-same (by-source (bookTexts book) (ownTexts count own) here) w) e)) refl)
+
+-- only the end of a phrase
+pub phrase-ended : (plate book own : List ℕ) (f : Field) (isOwn : Bool)
+    → endWith 0 (fieldRead plate f) ≡ endWith 0 (textsRead plate book own (phraseOf f isOwn))
+phrase-ended plate book own (Is i next) isOwn = refl
+phrase-ended plate book own (Refused r) isOwn = refl

@@ -1,15 +1,19 @@
 -- Texts as the code reads them: the code, and one text behind the other.
 use Prim.Native.Nat.{ℕ, zero, suc, _+_, _-_, _<_}
 use mathlib.Core.Path.{_≡_, refl, ap, _∙_}
-use mathlib.Core.List.{List, _∷_}
+use mathlib.Core.List.{List, [], _∷_}
 use mathlib.Core.Bool.{true, false, false≢true}
 use native.Mathlib.Numerals.{sub-one}
 use native.Mathlib.Omega.{arith}
-use lib.ListN.{length}
+use lib.ListN.{length, getD}
 use borrow.Author.Tests.{leb-true}
 use Rattle.causes.specs.declared.Cause.{Cause}
 use Rattle.causes.specs.declared.Cause.the-variants.{Unused}
-use Rattle.phrases.specs.Phrases.{Phrases}
+use Rattle.text.specs.Text.{Text}
+use Rattle.phrases.specs.Phrases.{Phrases, place, find, isNew}
+use Rattle.phrases.specs.Lookup.{bookTexts, ownTexts}
+use Rattle.phrases.specs.Index.{Indexed}
+use Rattle.phrases.proofs.Entries.{indexed-count}
 use Rattle.plate.specs.Reading.{Place, Read, got, stopped, Reader, number, judged, return, onward, _>>=_, many}
 use Rattle.plate.specs.Plate.{isTextCode, textBy, spelled, phrase}
 use Rattle.fields.specs.Places.{placeAt, endWith}
@@ -52,6 +56,19 @@ unused-code n zero h g = absurd (h refl)
 unused-code n (suc zero) h g = refl
 unused-code n (suc (suc zero)) h g = absurd (g refl)
 unused-code n (suc (suc (suc k))) h g = refl
+
+-- ---- a text with no phrases around
+
+-- where there is no phrase, every text is new
+pub none-there : (index book own : List ℕ) (count : ℕ) (t : Text) → Indexed index book → getD index 0 0 ≡ 0 → count ≡ 0
+    → isNew (bookTexts book) (ownTexts count own) t ≡ true
+unfolding place find ownTexts
+none-there index book own count t x e z = go (bookTexts book) (omega (arith, indexed-count index book x)) count z
+  where
+    go : (ts : List Text) → length ts ≡ 0 → (k : ℕ) → k ≡ 0 → isNew ts (ownTexts k own) t ≡ true
+    go [] h zero w = refl
+    go [] h (suc k) w = absurd (omega arith)
+    go (u ∷ us) h k w = absurd (omega arith)
 
 -- ---- one behind the other
 

@@ -3,17 +3,18 @@
 // what a reader of crate plate's specs/Plate.antt finds there.
 // Asked of a caller (`Lent`): a plate of at most 2,953 bytes, the index of the book, and own phrases that are there.
 // A text is answered by its place, never copied: characters from a bit on, or a phrase of the book or of the own ones.
+mod accepted;
 mod phrase_place;
 mod refusals;
 mod spelled_text;
 mod text_at;
 
+pub use accepted::accepted_text;
+pub use accepted::texts_end;
 use causes::Refusal;
-pub use phrase_place::read_phrase;
 pub use spelled_text::read_spelled;
-pub use text_at::accepted_text;
+pub use text_at::pass_text;
 pub use text_at::pass_texts;
-pub use text_at::read_text;
 
 // A text of a plate: characters from a bit on, or a phrase by its place in the book or among the own phrases.
 pub enum TextAt {

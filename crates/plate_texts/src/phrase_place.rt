@@ -1,16 +1,17 @@
-// A phrase by its place: in the book, or among the own phrases.
+// A phrase by its place: in the book, or among the own phrases. It is judged where it is read first; where it was read before, no more.
 ghost use mathlib.Core.Path.{_≡_};
+ghost use mathlib.Core.Bool.{true};
 ghost use Prim.Native.Nat.{_+_, _≤_, _<_};
 ghost use lib.ListN.{length, getD};
 ghost use lib.Dec.{ltb};
 ghost use Rattle.causes.specs.declared.Cause.the-variants.{Unused};
 ghost use Rattle.phrases.specs.Phrases.{width};
 ghost use Rattle.phrases.specs.Lookup.{bookTexts, ownTexts};
-ghost use Rattle.plate.specs.Reading.{number, judged};
+ghost use Rattle.plate.specs.Reading.{got, number, judged};
 ghost use Rattle.plate.specs.Plate.{phrase};
-ghost use Rattle.fields.specs.Places.{placeAt, fieldRead};
+ghost use Rattle.fields.specs.Places.{placeAt, fieldRead, endWith};
 ghost use Rattle.plate_texts.specs.Sources.{source, sourceRead};
-ghost use Rattle.plate_texts.specs.TextsAt.{phraseOf, textsRead, Lent};
+ghost use Rattle.plate_texts.specs.TextsAt.{textsRead, Lent, Known};
 use crate::TextAt;
 use crate::TextRead;
 use causes::Cause;
@@ -25,16 +26,6 @@ fn read_place(plate: &[u8], at: usize, n: usize) -> Field
     ensures { λ r. ⌜ fieldRead (now (plate .entry)) r ≡ judged (number (width n)) (λ i. ltb i n) Unused (placeAt (now (plate .entry)) at) ⌝ }
 {
     read_field(plate, at, phrases::width_of(n), n - 1, Cause::Unused)
-}
-
-// The phrase at a place that was read.
-fn phrase_of(field: Field, own: bool) -> TextRead
-    ensures { λ r. ⌜ r ≡ phraseOf field own ⌝ }
-{
-    match field {
-        Field::Is(place, next) => TextRead::Is(TextAt::Phrase { own, place }, next),
-        Field::Refused(r) => TextRead::Refused(r),
-    }
 }
 
 // Which phrases a place is among: the book's or the own ones, how many they are, and the bit where the place stands.
@@ -80,8 +71,31 @@ fn read_source(plate: &[u8], at: usize, texts: usize, count: usize) -> Source
     }
 }
 
-// A phrase: its source, and its place there.
-pub fn read_phrase(
+// The bit behind a phrase: its source, and its place there, which is judged.
+pub fn pass_phrase(
+    plate: &[u8],
+    at: usize,
+    index: &[u32],
+    book: &[u8],
+    own: &[u8],
+    count: usize,
+) -> Field
+    requires { ⌜ Lent (now plate) (now index) (now book) (now own) count × (0 < getD (now index) 0 0 + count) ⌝ }
+    ensures { λ r. ⌜ fieldRead (now (plate .entry)) r ≡ endWith 0 (phrase (bookTexts (now (book .entry))) (ownTexts count (now (own .entry))) (placeAt (now (plate .entry)) at)) ⌝ }
+{
+    let source = read_source(plate, at, phrases::count_of(index), count);
+    let Source::Is { own: _, n, next } = source else {
+        return Field::Refused(source.refusal());
+    };
+    let field = read_place(plate, next, n);
+    let Field::Is(_, end) = field else {
+        return field;
+    };
+    Field::Is(0, end)
+}
+
+// A phrase that was read before: its place is not judged again.
+pub fn accepted_phrase(
     plate: &[u8],
     at: usize,
     index: &[u32],
@@ -89,12 +103,39 @@ pub fn read_phrase(
     own: &[u8],
     count: usize,
 ) -> TextRead
-    requires { ⌜ Lent (now plate) (now index) (now book) (now own) count × (0 < getD (now index) 0 0 + count) ⌝ }
+    requires { ⌜ Lent (now plate) (now index) (now book) (now own) count × (0 < getD (now index) 0 0 + count) × Known true (phrase (bookTexts (now book)) (ownTexts count (now own)) (placeAt (now plate) at)) ⌝ }
     ensures { λ r. ⌜ textsRead (now (plate .entry)) (now (book .entry)) (now (own .entry)) r ≡ phrase (bookTexts (now (book .entry))) (ownTexts count (now (own .entry))) (placeAt (now (plate .entry)) at) ⌝ }
 {
     let source = read_source(plate, at, phrases::count_of(index), count);
     let Source::Is { own, n, next } = source else {
         return TextRead::Refused(source.refusal());
     };
-    phrase_of(read_place(plate, next, n), own)
+    let field = read_plain(plate, next, phrases::width_of(n));
+    let Field::Is(place, end) = field else {
+        return TextRead::Refused(field.refusal());
+    };
+    TextRead::Is(TextAt::Phrase { own, place }, end)
+}
+
+// The bit behind a phrase that was read before.
+pub fn phrase_end(
+    plate: &[u8],
+    at: usize,
+    index: &[u32],
+    book: &[u8],
+    own: &[u8],
+    count: usize,
+) -> usize
+    requires { ⌜ Lent (now plate) (now index) (now book) (now own) count × (0 < getD (now index) 0 0 + count) × Known true (phrase (bookTexts (now book)) (ownTexts count (now own)) (placeAt (now plate) at)) ⌝ }
+    ensures { λ r. ⌜ got 0 (placeAt (now (plate .entry)) r) ≡ endWith 0 (phrase (bookTexts (now (book .entry))) (ownTexts count (now (own .entry))) (placeAt (now (plate .entry)) at)) ⌝ }
+{
+    let source = read_source(plate, at, phrases::count_of(index), count);
+    let Source::Is { own: _, n, next } = source else {
+        return at;
+    };
+    let field = read_plain(plate, next, phrases::width_of(n));
+    let Field::Is(_, end) = field else {
+        return at;
+    };
+    end
 }

@@ -1,6 +1,6 @@
 // A text that is spelled out: its characters up to ETX, judged as a whole at its first bit.
 ghost use mathlib.Core.Path.{_≡_};
-ghost use mathlib.Core.Bool.{_&&_};
+ghost use mathlib.Core.Bool.{true, _&&_};
 ghost use Prim.Native.Nat.{_≤_};
 ghost use lib.ListN.{length, drop};
 ghost use Rattle.bits.specs.Bits.{bytesBits};
@@ -49,6 +49,11 @@ fn is_good(
     if 64 < size {
         return false;
     }
+    if phrases::count_of(index) == 0 {
+        if count == 0 {
+            return true;
+        }
+    }
     let mut characters = [0u8; 64];
     put_characters(plate, bit, size, &mut characters, 0);
     is_new(index, book, own, count, &characters[..size])
@@ -67,11 +72,11 @@ pub fn read_spelled(
     ensures { λ r. ⌜ sizeRead (now (plate .entry)) at r ≡ spelled (bookTexts (now (book .entry))) (ownTexts count (now (own .entry))) (placeAt (now (plate .entry)) at) ⌝ }
 {
     let field = read_size(plate, at);
-    let Field::Is(size, _) = field else {
+    let Field::Is(size, next) = field else {
         return field;
     };
     if is_good(plate, at, size, index, book, own, count) {
-        return field;
+        return Field::Is(size, next);
     }
     Field::Refused(Refusal {
         cause: Cause::Spelling,
@@ -79,21 +84,17 @@ pub fn read_spelled(
     })
 }
 
-// The same; a text that is known to be good is not judged again.
-pub fn spelled_at(
+// The same of a text that was read before: it is not judged again.
+pub fn accepted_spelled(
     plate: &[u8],
     at: usize,
     index: &[u32],
     book: &[u8],
     own: &[u8],
     count: usize,
-    known: bool,
 ) -> Field
-    requires { ⌜ (length (now plate) ≤ 2953) × Indexed (now index) (now book) × Known known (spelled (bookTexts (now book)) (ownTexts count (now own)) (placeAt (now plate) at)) ⌝ }
+    requires { ⌜ (length (now plate) ≤ 2953) × Indexed (now index) (now book) × Known true (spelled (bookTexts (now book)) (ownTexts count (now own)) (placeAt (now plate) at)) ⌝ }
     ensures { λ r. ⌜ sizeRead (now (plate .entry)) at r ≡ spelled (bookTexts (now (book .entry))) (ownTexts count (now (own .entry))) (placeAt (now (plate .entry)) at) ⌝ }
 {
-    if known {
-        return read_size(plate, at);
-    }
-    read_spelled(plate, at, index, book, own, count)
+    read_size(plate, at)
 }

@@ -1,0 +1,17 @@
+-- Readings of which only the end is known: what was read ends there, or is refused there.
+use Prim.Native.Nat.{ℕ}
+use mathlib.Core.Path.{_≡_, refl, ap}
+use native.Mathlib.Omega.{arith}
+use Rattle.causes.specs.declared.Cause.{Cause}
+use Rattle.plate.specs.Reading.{Place, Read, got, stopped}
+use Rattle.fields.specs.Places.{endWith}
+
+module _ {A : Type 0} where
+  -- something was read that ends there
+  pub ended-some : (k v : ℕ) (s : Place) (m : Read A) → got v s ≡ endWith k m → (a : A) × (got a s ≡ m)
+  ended-some k v s (got a q) e = let same : s ≡ q = cc in (a, ap (got a) same)
+  ended-some k v s (stopped cause bit) e = let z : _≡_ {A = ℕ} 0 1 = cc in absurd (omega arith)
+
+  pub ended-stopped : (k : ℕ) (m : Read A) {cause : Cause} {bit : ℕ} → stopped cause bit ≡ endWith k m → stopped cause bit ≡ m
+  ended-stopped k (got a q) e = let z : _≡_ {A = ℕ} 0 1 = cc in absurd (omega arith)
+  ended-stopped k (stopped c b) {cause} {bit} e = let one : cause ≡ c = cc in let two : bit ≡ b = cc in (λ i. stopped (one i) (two i))

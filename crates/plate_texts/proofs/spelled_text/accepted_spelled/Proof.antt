@@ -1,0 +1,21 @@
+-- `accepted_spelled` meets its contract: what is known to be good is its characters up to ETX.
+use mathlib.Core.Path.{refl, _∙_}
+use borrow.Author.Needs.{needs}
+use Rattle.plate.specs.Plate.{spelled}
+use Rattle.fields.specs.Places.{untilETX}
+use Rattle.plate_texts.proofs.Known.{known-judged}
+use Rattle.plate_texts.proofs.spelled_text.accepted_spelled.Statement.{statement}
+use Rattle.plate_texts.proofs.spelled_text.accepted_spelled.Tie as tie
+use Rattle.plate_texts.proofs.spelled_text.accepted_spelled.Reads as reads
+use Rattle.plate_texts.proofs.spelled_text.accepted_spelled.Lts as lts
+use Rattle.fields.proofs.read_size.Reads as read-size-reads
+
+read-size-requires : tie.Need-read-size-requires
+read-size-requires c κs = search needs
+
+returns : tie.Need-returns
+unfolding spelled
+returns c = c .read-size .ensures ∙ known-judged untilETX _ _ _ _ (c .before .before .before .before .before .pre .2) refl
+
+pub accepted-spelled-spec : {M : Type 1} → statement M
+accepted-spelled-spec = tie.close (tie.spec read-size-requires returns)

@@ -1,5 +1,5 @@
 -- The fields of an instruction as the code reads them: the options of inputs, and the fields that a code calls for.
-use Prim.Native.Nat.{ℕ, zero, suc, _+_}
+use Prim.Native.Nat.{ℕ, zero, suc, _+_, _≤_}
 use mathlib.Core.Path.{_≡_, refl, sym, ap, _∙_}
 use mathlib.Core.List.{List, []}
 use native.Mathlib.Omega.{arith}
@@ -7,11 +7,14 @@ use lib.Dec.{leb}
 use Rattle.causes.specs.declared.Cause.{Cause}
 use Rattle.causes.specs.declared.Cause.the-variants.{Unused}
 use Rattle.text.specs.Text.{Text}
+use Rattle.transcript.specs.Statement.{print, printex}
 use Rattle.phrases.specs.Phrases.{Phrases}
-use Rattle.plate.specs.Reading.{Place, Read, got, stopped, number, judged, return, onward, many}
+use Rattle.plate.specs.Reading.{Place, Read, got, stopped, number, judged, return, many}
+use Rattle.plate.specs.Program.{statement}
 use Rattle.plate.specs.Plate.{text, options, fieldsBy}
 use Rattle.fields.specs.Places.{endWith, valuesOf}
 use Rattle.fields.proofs.Onward.{then-got, then-stopped}
+use Rattle.plate_texts.proofs.Ended.{ended-stopped, ended-map}
 
 -- ---- values of which only the end is known
 
@@ -19,11 +22,6 @@ module _ {A : Type 0} where
   pub ended-got : (n v : ℕ) (s : Place) (m : Read (List A)) → got v s ≡ endWith n m → got (valuesOf m) s ≡ m
   ended-got n v s (got ts q) e = let same : s ≡ q = cc in ap (got ts) same
   ended-got n v s (stopped cause bit) e = let z : _≡_ {A = ℕ} 0 1 = cc in absurd (omega arith)
-
-  pub ended-stopped : (n : ℕ) (m : Read (List A)) {cause : Cause} {bit : ℕ} → stopped cause bit ≡ endWith n m → stopped cause bit ≡ m
-  unfolding return
-  ended-stopped n (got ts q) e = let z : _≡_ {A = ℕ} 0 1 = cc in absurd (omega arith)
-  ended-stopped n (stopped cause bit) e = ap (λ m. onward m (λ k. return {A = List A} [])) e
 
 module _ (c : Phrases) (p q : Place) (k : ℕ) (e : got k q ≡ judged (number 3) (λ k. leb k 6) Unused p) where
   abbrev all : Read (List Text)
@@ -61,3 +59,15 @@ fields-last c behind q (suc (suc zero)) h0 h1 h2 h3 h4 = absurd (h2 refl)
 fields-last c behind q (suc (suc (suc zero))) h0 h1 h2 h3 h4 = absurd (h3 refl)
 fields-last c behind q (suc (suc (suc (suc zero)))) h0 h1 h2 h3 h4 = absurd (h4 refl)
 fields-last c behind q (suc (suc (suc (suc (suc k))))) h0 h1 h2 h3 h4 = refl
+
+-- print and printex are a text alone
+
+pub fields-shown : (c : Phrases) (behind : ℕ) (q : Place) (k : ℕ) → (k ≡ 0 → ⊥) → (k ≡ 1 → ⊥) → (k ≡ 4 → ⊥) → (k ≡ 5 → ⊥) → k ≤ 5
+    → endWith 0 (text c q) ≡ endWith 0 (fieldsBy c behind k q)
+fields-shown c behind q zero h0 h1 h4 h5 h = absurd (h0 refl)
+fields-shown c behind q (suc zero) h0 h1 h4 h5 h = absurd (h1 refl)
+fields-shown c behind q (suc (suc zero)) h0 h1 h4 h5 h = ended-map 0 (text c) (λ t. statement (print t)) q
+fields-shown c behind q (suc (suc (suc zero))) h0 h1 h4 h5 h = ended-map 0 (text c) (λ t. statement (printex t)) q
+fields-shown c behind q (suc (suc (suc (suc zero)))) h0 h1 h4 h5 h = absurd (h4 refl)
+fields-shown c behind q (suc (suc (suc (suc (suc zero))))) h0 h1 h4 h5 h = absurd (h5 refl)
+fields-shown c behind q (suc (suc (suc (suc (suc (suc k)))))) h0 h1 h4 h5 h = absurd (omega arith)

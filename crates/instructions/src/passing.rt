@@ -8,7 +8,14 @@ use fields::read_skip;
 use fields::read_test;
 use plate_texts::pass_text;
 use plate_texts::pass_texts;
-GHOST
+ghost use mathlib.Core.Path.{_≡_};
+ghost use mathlib.Core.List.{List};
+ghost use Prim.Native.Nat.{ℕ, _≤_};
+ghost use lib.ListN.{length};
+ghost use Rattle.phrases.specs.Lookup.{phrasesIn};
+ghost use Rattle.plate.specs.Plate.{fieldsBy, instruction};
+ghost use Rattle.fields.specs.Places.{placeAt, fieldRead, endWith};
+ghost use Rattle.plate_texts.specs.TextsAt.{Lent};
 
 // input: register, text.
 fn pass_input(
@@ -26,11 +33,7 @@ fn pass_input(
     let Field::Is(_, text_at) = first else {
         return first;
     };
-    let second = pass_text(plate, text_at, index, book, own, count);
-    let Field::Is(_, next) = second else {
-        return second;
-    };
-    Field::Is(0, next)
+    pass_text(plate, text_at, index, book, own, count)
 }
 
 // inputs: register, text, options less two, and as many texts.
@@ -64,26 +67,6 @@ fn pass_inputs(
     Field::Is(0, next)
 }
 
-// print and printex: text.
-fn pass_shown(
-    plate: &[u8],
-    at: usize,
-    code: usize,
-    index: &[u32],
-    book: &[u8],
-    own: &[u8],
-    count: usize,
-) -> Field
-    requires { ⌜ Lent (now plate) (now index) (now book) (now own) count × (2 ≤ code) × (code ≤ 3) ⌝ }
-    ensures { λ r. ⌜ fieldRead (now (plate .entry)) r ≡ endWith 0 (fieldsBy (phrasesIn (now (book .entry)) (now (own .entry)) count) 0 code (placeAt (now (plate .entry)) at)) ⌝ }
-{
-    let text = pass_text(plate, at, index, book, own, count);
-    let Field::Is(_, next) = text else {
-        return text;
-    };
-    Field::Is(0, next)
-}
-
 // goto: skip.
 fn pass_goto(plate: &[u8], at: usize, behind: usize) -> Field
     requires { ⌜ length (now plate) ≤ 2953 ⌝ }
@@ -112,7 +95,7 @@ fn pass_if(plate: &[u8], at: usize, behind: usize) -> Field
     Field::Is(0, next)
 }
 
-// The bit behind an instruction with so many behind it.
+// The bit behind an instruction with so many behind it. What is left of its codes, print and printex, is a text alone.
 pub fn pass_instruction(
     plate: &[u8],
     at: usize,
@@ -132,9 +115,8 @@ pub fn pass_instruction(
     match code {
         0 => pass_input(plate, next, index, book, own, count),
         1 => pass_inputs(plate, next, index, book, own, count),
-        2 => pass_shown(plate, next, code, index, book, own, count),
-        3 => pass_shown(plate, next, code, index, book, own, count),
         4 => pass_goto(plate, next, behind),
-        _ => pass_if(plate, next, behind),
+        5 => pass_if(plate, next, behind),
+        _ => pass_text(plate, next, index, book, own, count),
     }
 }

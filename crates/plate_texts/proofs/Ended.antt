@@ -3,7 +3,7 @@ use Prim.Native.Nat.{ℕ}
 use mathlib.Core.Path.{_≡_, refl, ap}
 use native.Mathlib.Omega.{arith}
 use Rattle.causes.specs.declared.Cause.{Cause}
-use Rattle.plate.specs.Reading.{Place, Read, got, stopped}
+use Rattle.plate.specs.Reading.{Place, Read, got, stopped, Reader, return, onward, _>>=_}
 use Rattle.fields.specs.Places.{endWith}
 
 module _ {A : Type 0} where
@@ -15,3 +15,12 @@ module _ {A : Type 0} where
   pub ended-stopped : (k : ℕ) (m : Read A) {cause : Cause} {bit : ℕ} → stopped cause bit ≡ endWith k m → stopped cause bit ≡ m
   ended-stopped k (got a q) e = let z : _≡_ {A = ℕ} 0 1 = cc in absurd (omega arith)
   ended-stopped k (stopped c b) {cause} {bit} e = let one : cause ≡ c = cc in let two : bit ≡ b = cc in (λ i. stopped (one i) (two i))
+
+  -- what is made of what was read ends there too
+  pub ended-map : {B : Type 0} (k : ℕ) (r : Reader A) (f : A → B) (q : Place) → endWith k (r q) ≡ endWith k ((r >>= λ a. return (f a)) q)
+  unfolding _>>=_ return
+  ended-map k r f q = go (r q)
+    where
+      go : (m : Read A) → endWith k m ≡ endWith k (onward m (λ a. return (f a)))
+      go (got a s) = refl
+      go (stopped cause bit) = refl

@@ -6,8 +6,7 @@ ghost use Rattle.plate.specs.Plate.{instruction};
 ghost use Rattle.fields.specs.Places.{placeAt, fieldRead, endWith};
 ghost use Rattle.plate_texts.specs.TextsAt.{Lent};
 use fields::Field;
-use instructions::InstructionRead;
-use instructions::read_instruction;
+use instructions::pass_instruction;
 
 // The bit behind n instructions.
 pub fn pass_instructions(
@@ -25,9 +24,9 @@ pub fn pass_instructions(
     let mut bit = at;
     let mut left = n;
     while 0 < left {
-        let read = read_instruction(plate, bit, left - 1, index, book, own, count);
-        let InstructionRead::Is(_, next) = read else {
-            return Field::Refused(read.refusal());
+        let read = pass_instruction(plate, bit, left - 1, index, book, own, count);
+        let Field::Is(_, next) = read else {
+            return read;
         };
         bit = next;
         left -= 1;

@@ -27,8 +27,8 @@ returns c =
     then-stopped _ _ _
     (field-stopped _ _ (c .before .before .before .read-plain .ensures) (c .before .enum-told .given .1) (c .refusal .ensures))
 
-read-text-requires : tie.Need-read-text-requires
-read-text-requires c κs = (
+accepted-text-requires : tie.Need-accepted-text-requires
+accepted-text-requires c κs = (
   search needs,
   known-first _ _ _ (known-then _ _ _ (c .before .before .before .before .before .before .before .before .pre .1)
       (field-got _ _ (c .before .before .before .read-plain .ensures) (c .before .first .given .1))),
@@ -46,14 +46,14 @@ refusal-requires-2 c κs = search needs
 returns-2 : tie.Need-returns-2
 returns-2 c =
     then-stopped _ _ _
-    (text-stopped _ _ _ _ (c .before .before .before .read-text .ensures) (c .before .enum-told2 .given .1) (c .refusal2 .ensures))
+    (text-stopped _ _ _ _ (c .before .before .before .accepted-text .ensures) (c .before .enum-told2 .given .1) (c .refusal2 .ensures))
     ∙ then-got _ _ _
     (field-got _ _ (c .before .before .before .before .before .before .before .read-plain .ensures)
     (c .before .before .before .before .before .first .given .1))
 
 returns-3 : tie.Need-returns-3
 unfolding instructionAt return
-returns-3 c = then-got _ _ _ (text-got _ _ _ _ (c .before .before .before .read-text .ensures) (c .before .second .given .1))
+returns-3 c = then-got _ _ _ (text-got _ _ _ _ (c .before .before .before .accepted-text .ensures) (c .before .second .given .1))
     ∙ then-got _ _ _
     (field-got _ _ (c .before .before .before .before .before .before .before .read-plain .ensures)
     (c .before .before .before .before .before .first .given .1))
@@ -67,7 +67,7 @@ read-input-spec =
     enum-told
     refusal-requires
     returns
-    read-text-requires
+    accepted-text-requires
     enum-known-second
     enum-told-2
     refusal-requires-2

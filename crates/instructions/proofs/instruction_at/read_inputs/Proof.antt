@@ -9,7 +9,7 @@ use Rattle.fields.proofs.Onward.{then-got, then-stopped, got-good}
 use Rattle.fields.proofs.Answers.{field-got, field-stopped}
 use Rattle.plate_texts.proofs.Known.{known-same, known-first, known-then}
 use Rattle.plate_texts.proofs.TextAnswers.{text-got, text-stopped}
-use Rattle.instructions.proofs.FieldsRead.{options-read, options-got, options-stopped, options-refused}
+use Rattle.instructions.proofs.FieldsRead.{options-read, options-got, options-refused}
 use Rattle.instructions.proofs.instruction_at.read_inputs.Statement.{statement}
 use Rattle.instructions.proofs.instruction_at.read_inputs.Tie as tie
 
@@ -30,8 +30,8 @@ returns c =
     then-stopped _ _ _
     (field-stopped _ _ (c .before .before .before .read-plain .ensures) (c .before .enum-told .given .1) (c .refusal .ensures))
 
-read-text-requires : tie.Need-read-text-requires
-read-text-requires c κs = (
+accepted-text-requires : tie.Need-accepted-text-requires
+accepted-text-requires c κs = (
   search needs,
   known-first _ _ _ (known-then _ _ _ (c .before .before .before .before .before .before .before .before .pre .1)
       (field-got _ _ (c .before .before .before .read-plain .ensures) (c .before .first .given .1))),
@@ -49,7 +49,7 @@ refusal-requires-2 c κs = search needs
 returns-2 : tie.Need-returns-2
 returns-2 c =
     then-stopped _ _ _
-    (text-stopped _ _ _ _ (c .before .before .before .read-text .ensures) (c .before .enum-told2 .given .1) (c .refusal2 .ensures))
+    (text-stopped _ _ _ _ (c .before .before .before .accepted-text .ensures) (c .before .enum-told2 .given .1) (c .refusal2 .ensures))
     ∙ then-got _ _ _
     (field-got _ _ (c .before .before .before .before .before .before .before .read-plain .ensures)
     (c .before .before .before .before .before .first .given .1))
@@ -72,7 +72,7 @@ returns-3 c =
     (options-refused _ _
     (field-stopped _ _ (c .before .before .before .read-field .ensures) (c .before .enum-told3 .given .1) (c .refusal3 .ensures)))
     ∙ then-got _ _ _
-    (text-got _ _ _ _ (c .before .before .before .before .before .before .before .read-text .ensures)
+    (text-got _ _ _ _ (c .before .before .before .before .before .before .before .accepted-text .ensures)
     (c .before .before .before .before .before .second .given .1))
     ∙ then-got _ _ _
     (field-got _ _ (c .before .before .before .before .before .before .before .before .before .before .before .read-plain .ensures)
@@ -82,8 +82,8 @@ add-options : tie.Need-add-options
 add-options c = let few = got-good _ (gives-judged _ _ (gives-number 3))
     (field-got _ _ (c .before .before .before .read-field .ensures) (c .before .third .given .1)) in omega (arith, few .0)
 
-pass-texts-requires : tie.Need-pass-texts-requires
-pass-texts-requires c κs =
+texts-end-requires : tie.Need-texts-end-requires
+texts-end-requires c κs =
     let k = field-got _ _ (c .before .before .before .read-field .ensures) (c .before .third .given .1) in (
       search needs,
       known-same (options-read _ _ _ _ k)
@@ -92,43 +92,16 @@ pass-texts-requires c κs =
           (known-then _ _ _ (c .before .before .before .before .before .before .before .before .before .before .before .before .before .before .before .before .pre .1)
           (field-got _ _ (c .before .before .before .before .before .before .before .before .before .before .before .read-plain .ensures)
           (c .before .before .before .before .before .before .before .before .before .first .given .1)))
-          (text-got _ _ _ _ (c .before .before .before .before .before .before .before .read-text .ensures)
+          (text-got _ _ _ _ (c .before .before .before .before .before .before .before .accepted-text .ensures)
           (c .before .before .before .before .before .second .given .1)))),
     )
 
-enum-known-last : tie.Need-enum-known-last
-enum-known-last c = search needs
-
-enum-told-4 : tie.Need-enum-told-4
-enum-told-4 c = search needs
-
-refusal-requires-4 : tie.Need-refusal-requires-4
-refusal-requires-4 c κs = search needs
-
 returns-4 : tie.Need-returns-4
-returns-4 c = let k = field-got _ _ (c .before .before .before .before .before .before .before .read-field .ensures)
-    (c .before .before .before .before .before .third .given .1) in
-    then-stopped _ _ _
-    (options-stopped _ _ _ _ k
-    (field-stopped _ _ (c .before .before .before .pass-texts .ensures) (c .before .enum-told4 .given .1) (c .refusal4 .ensures)))
-    ∙ then-got _ _ _
-    (text-got _ _ _ _ (c .before .before .before .before .before .before .before .before .before .before .before .read-text .ensures)
-    (c .before .before .before .before .before .before .before .before .before .second .given .1))
-    ∙ then-got _ _ _
-    (field-got _ _
-    (c .before .before .before .before .before .before .before .before .before .before .before .before .before .before .before .read-plain .ensures) (c .before .before .before .before .before .before .before .before .before .before .before .before .before .first .given .1))
-
-returns-5 : tie.Need-returns-5
 unfolding instructionAt return
-returns-5 c = let k = field-got _ _ (c .before .before .before .before .before .before .before .read-field .ensures)
-    (c .before .before .before .before .before .third .given .1) in
-    then-got _ _ _ (options-got _ _ _ _ k _ _ (field-got _ _ (c .before .before .before .pass-texts .ensures) (c .before .last .given .1)))
-    ∙ then-got _ _ _
-    (text-got _ _ _ _ (c .before .before .before .before .before .before .before .before .before .before .before .read-text .ensures)
-    (c .before .before .before .before .before .before .before .before .before .second .given .1))
-    ∙ then-got _ _ _
-    (field-got _ _
-    (c .before .before .before .before .before .before .before .before .before .before .before .before .before .before .before .read-plain .ensures) (c .before .before .before .before .before .before .before .before .before .before .before .before .before .first .given .1))
+returns-4 c = let k = field-got _ _ (c .before .before .before .before .read-field .ensures) (c .before .before .third .given .1) in
+    then-got _ _ _ (options-got _ _ _ _ k _ _ (c .texts-end .ensures))
+    ∙ then-got _ _ _ (text-got _ _ _ _ (c .before .before .before .before .before .before .before .before .accepted-text .ensures) (c .before .before .before .before .before .before .second .given .1))
+    ∙ then-got _ _ _ (field-got _ _ (c .before .before .before .before .before .before .before .before .before .before .before .before .read-plain .ensures) (c .before .before .before .before .before .before .before .before .before .before .first .given .1))
 
 pub read-inputs-spec : {M : Type 1} → statement M
 read-inputs-spec =
@@ -139,7 +112,7 @@ read-inputs-spec =
     enum-told
     refusal-requires
     returns
-    read-text-requires
+    accepted-text-requires
     enum-known-second
     enum-told-2
     refusal-requires-2
@@ -150,9 +123,5 @@ read-inputs-spec =
     refusal-requires-3
     returns-3
     add-options
-    pass-texts-requires
-    enum-known-last
-    enum-told-4
-    refusal-requires-4
-    returns-4
-    returns-5)
+    texts-end-requires
+    returns-4)

@@ -1,10 +1,12 @@
 -- `pass_instructions` meets its contract. The loop's invariant: what is left ends where all of it ends. The measure is what is left.
+use mathlib.Core.Path.{ap, _∙_}
 use native.Mathlib.Omega.{arith}
 use borrow.Author.Needs.{needs}
 use Rattle.phrases.specs.Lookup.{phrasesIn}
 use Rattle.plate.specs.Plate.{instruction}
-use Rattle.fields.specs.Places.{placeAt}
-use Rattle.instructions.proofs.InstructionAnswers.{instruction-got, instruction-stopped}
+use Rattle.fields.specs.Places.{placeAt, fieldRead}
+use Rattle.fields.proofs.Answers.{field-got, field-refused}
+use Rattle.plate_texts.proofs.Ended.{ended-some, ended-stopped}
 use Rattle.plate_texts.proofs.TextsRead.{Passing, passing-start, passing-more, passing-stopped, passing-end}
 use Rattle.reader.proofs.passing.pass_instructions.Statement.{statement}
 use Rattle.reader.proofs.passing.pass_instructions.Tie as tie
@@ -19,11 +21,11 @@ abbrev μ-loop : tie.MeasureT-loop
 loop-holds : tie.Need-loop-holds Inv-loop μ-loop
 loop-holds c = passing-start _ _ _
 
-sub-read-instruction : tie.Need-sub-read-instruction Inv-loop μ-loop
-sub-read-instruction c = search needs
+sub-pass-instruction : tie.Need-sub-pass-instruction Inv-loop μ-loop
+sub-pass-instruction c = search needs
 
-read-instruction-requires : tie.Need-read-instruction-requires Inv-loop μ-loop
-read-instruction-requires c κs = search needs
+pass-instruction-requires : tie.Need-pass-instruction-requires Inv-loop μ-loop
+pass-instruction-requires c κs = search needs
 
 enum-known-read : tie.Need-enum-known-read Inv-loop μ-loop
 enum-known-read c = search needs
@@ -31,13 +33,10 @@ enum-known-read c = search needs
 enum-told : tie.Need-enum-told Inv-loop μ-loop
 enum-told c = search needs
 
-refusal-requires : tie.Need-refusal-requires Inv-loop μ-loop
-refusal-requires c κs = search needs
-
 returns : tie.Need-returns Inv-loop μ-loop
-returns c = passing-stopped _ _ (c .before .before .before .before .before .loop .inv) (search needs)
-    (instruction-stopped _ _ _ _ _ (c .before .before .before .read-instruction .ensures) (c .before .enum-told .given .1)
-    (c .refusal .ensures))
+returns c = ap (fieldRead _) (c .enum-told .given .1)
+    ∙ passing-stopped _ _ (c .before .before .before .before .loop .inv) (search needs)
+    (ended-stopped 0 _ (field-refused _ _ (c .before .before .pass-instruction .ensures) (c .enum-told .given .1)))
 
 sub-left : tie.Need-sub-left Inv-loop μ-loop
 sub-left c = search needs
@@ -46,8 +45,9 @@ loop-less : tie.Need-loop-less Inv-loop μ-loop
 loop-less c = search needs
 
 loop-again : tie.Need-loop-again Inv-loop μ-loop
-loop-again c = passing-more _ _ (c .before .before .before .before .before .loop .inv) _ _ (search needs)
-    (instruction-got _ _ _ _ _ (c .before .before .before .read-instruction .ensures) (c .before .read .given .1))
+loop-again c =
+    let t = ended-some 0 _ _ _ (field-got _ _ (c .before .before .before .pass-instruction .ensures) (c .before .read .given .1)) in
+    passing-more _ _ (c .before .before .before .before .before .loop .inv) _ _ (search needs) (t .1)
 
 returns-2 : tie.Need-returns-2 Inv-loop μ-loop
 returns-2 c = passing-end _ (c .before .loop .left) (c .before .loop .inv) (omega arith)
@@ -59,11 +59,10 @@ pass-instructions-spec =
     Inv-loop
     μ-loop
     loop-holds
-    sub-read-instruction
-    read-instruction-requires
+    sub-pass-instruction
+    pass-instruction-requires
     enum-known-read
     enum-told
-    refusal-requires
     returns
     sub-left
     loop-less

@@ -1,4 +1,4 @@
--- `read_any` meets its contract: the code, then the fields that it calls for.
+-- `accepted_instruction` meets its contract: the code, then the fields that it calls for.
 use mathlib.Core.Path.{_∙_}
 use borrow.Author.Needs.{needs}
 use Rattle.plate.specs.Plate.{instruction}
@@ -6,8 +6,8 @@ use Rattle.fields.proofs.Onward.{then-got, then-stopped}
 use Rattle.fields.proofs.Answers.{field-got, field-stopped}
 use Rattle.plate_texts.proofs.Known.{known-same, known-then}
 use Rattle.instructions.proofs.FieldsRead.{fields-code, fields-last}
-use Rattle.instructions.proofs.instruction_at.read_any.Statement.{statement}
-use Rattle.instructions.proofs.instruction_at.read_any.Tie as tie
+use Rattle.instructions.proofs.instruction_at.accepted_instruction.Statement.{statement}
+use Rattle.instructions.proofs.instruction_at.accepted_instruction.Tie as tie
 
 read-field-requires : tie.Need-read-field-requires
 read-field-requires c κs = search needs
@@ -102,8 +102,8 @@ returns-7 c = let h = c .before .match2 .rest in
     ∙ then-got _ _ _
     (field-got _ _ (c .before .before .before .before .before .read-field .ensures) (c .before .before .before .field .given .1))
 
-pub read-any-spec : {M : Type 1} → statement M
-read-any-spec =
+pub accepted-instruction-spec : {M : Type 1} → statement M
+accepted-instruction-spec =
     tie.close
     (tie.spec
     read-field-requires

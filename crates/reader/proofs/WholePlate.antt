@@ -17,7 +17,8 @@ use Rattle.plate.specs.Plate.{ownCount, ownFrom, instruction, program, filling,
 use Rattle.plate.proofs.Readers.{gives-number, gives-judged}
 use Rattle.fields.specs.Places.{placeAt, endWith}
 use Rattle.fields.proofs.Onward.{then-got, then-stopped, got-good}
-use Rattle.instructions.proofs.FieldsRead.{ended-got, ended-stopped}
+use Rattle.plate_texts.proofs.Ended.{ended-stopped}
+use Rattle.instructions.proofs.FieldsRead.{ended-got}
 use Rattle.reader.specs.Holding.{There, instructionsAt}
 use Rattle.reader.specs.Own.{ownPhrases}
 use Rattle.reader.specs.Filled.{isFilling}

@@ -43,14 +43,7 @@ pub fn accepted_text(
 }
 
 // The bit behind a text.
-fn text_end(
-    plate: &[u8],
-    at: usize,
-    index: &[u32],
-    book: &[u8],
-    own: &[u8],
-    count: usize,
-) -> usize
+fn text_end(plate: &[u8], at: usize, index: &[u32], book: &[u8], own: &[u8], count: usize) -> usize
     requires { ⌜ Lent (now plate) (now index) (now book) (now own) count × Known true (reader.text (phrasesIn (now book) (now own) count) (placeAt (now plate) at)) ⌝ }
     ensures { λ r. ⌜ got 0 (placeAt (now (plate .entry)) r) ≡ endWith 0 (reader.text (phrasesIn (now (book .entry)) (now (own .entry)) count) (placeAt (now (plate .entry)) at)) ⌝ }
 {

@@ -29,8 +29,13 @@ count-of-requires c κs = search needs
 
 returns-3 : tie.Need-returns-3
 returns-3 c = let h : 1 ≤ c .before .before .before .before .before .before .before .before .before .args .size = omega arith in
-    simp (length-characters, le-leb 1 _ h, le-leb _ 64 (c .before .before .before .if2 .left), none-there (c .before .before .before .before .before .before .before .before .before .args .index .now) (c .before .before .before .before .before .before .before .before .before .args .book .now) (c .before .before .before .before .before .before .before .before .before .args .own .now) (c .before .before .before .before .before .before .before .before .before .args .count) (charactersIn (c .before .before .before .before .before .before .before .before .before .args .size) (drop (c .before .before .before .before .before .before .before .before .before .args .bit) (bytesBits (c .before .before .before .before .before .before .before .before .before .args .plate .now)))) (c .before .before .before .before .before .before .before .before .before .pre .1)
-    (omega (arith, c .before .before .count-of .ensures, c .before .if3 .taken)) (c .if4 .taken))
+    simp (
+      length-characters,
+      le-leb 1 _ h,
+      le-leb _ 64 (c .before .before .before .if2 .left),
+      none-there (c .before .before .before .before .before .before .before .before .before .args .index .now) (c .before .before .before .before .before .before .before .before .before .args .book .now) (c .before .before .before .before .before .before .before .before .before .args .own .now) (c .before .before .before .before .before .before .before .before .before .args .count) (charactersIn (c .before .before .before .before .before .before .before .before .before .args .size) (drop (c .before .before .before .before .before .before .before .before .before .args .bit) (bytesBits (c .before .before .before .before .before .before .before .before .before .args .plate .now)))) (c .before .before .before .before .before .before .before .before .before .pre .1)
+          (omega (arith, c .before .before .count-of .ensures, c .before .if3 .taken)) (c .if4 .taken),
+    )
 
 slice-aggregate-put-characters : tie.Need-slice-aggregate-put-characters
 slice-aggregate-put-characters c = search needs

@@ -1,7 +1,6 @@
 // Instructions of a plate that were read before: a code, and the fields that it calls for. The texts are not judged again.
 ghost use mathlib.Core.Path.{_≡_};
 ghost use mathlib.Core.List.{List};
-ghost use mathlib.Core.Bool.{true};
 ghost use Prim.Native.Nat.{ℕ, _≤_};
 ghost use lib.ListN.{length};
 ghost use Rattle.phrases.specs.Lookup.{phrasesIn};
@@ -31,7 +30,7 @@ fn read_input(
     own: &[u8],
     count: usize,
 ) -> InstructionRead
-    requires { ⌜ Lent (now plate) (now index) (now book) (now own) count × Known true (fieldsBy (phrasesIn (now book) (now own) count) 0 0 (placeAt (now plate) at)) ⌝ }
+    requires { ⌜ Lent (now plate) (now index) (now book) (now own) count × Known (fieldsBy (phrasesIn (now book) (now own) count) 0 0 (placeAt (now plate) at)) ⌝ }
     ensures { λ r. ⌜ instructionRead (now (plate .entry)) (now (book .entry)) (now (own .entry)) count r ≡ fieldsBy (phrasesIn (now (book .entry)) (now (own .entry)) count) 0 0 (placeAt (now (plate .entry)) at) ⌝ }
 {
     let first = read_plain(plate, at, 5);
@@ -54,7 +53,7 @@ fn read_inputs(
     own: &[u8],
     count: usize,
 ) -> InstructionRead
-    requires { ⌜ Lent (now plate) (now index) (now book) (now own) count × Known true (fieldsBy (phrasesIn (now book) (now own) count) 0 1 (placeAt (now plate) at)) ⌝ }
+    requires { ⌜ Lent (now plate) (now index) (now book) (now own) count × Known (fieldsBy (phrasesIn (now book) (now own) count) 0 1 (placeAt (now plate) at)) ⌝ }
     ensures { λ r. ⌜ instructionRead (now (plate .entry)) (now (book .entry)) (now (own .entry)) count r ≡ fieldsBy (phrasesIn (now (book .entry)) (now (own .entry)) count) 0 1 (placeAt (now (plate .entry)) at) ⌝ }
 {
     let first = read_plain(plate, at, 5);
@@ -91,7 +90,7 @@ fn read_print(
     own: &[u8],
     count: usize,
 ) -> InstructionRead
-    requires { ⌜ Lent (now plate) (now index) (now book) (now own) count × Known true (fieldsBy (phrasesIn (now book) (now own) count) 0 2 (placeAt (now plate) at)) ⌝ }
+    requires { ⌜ Lent (now plate) (now index) (now book) (now own) count × Known (fieldsBy (phrasesIn (now book) (now own) count) 0 2 (placeAt (now plate) at)) ⌝ }
     ensures { λ r. ⌜ instructionRead (now (plate .entry)) (now (book .entry)) (now (own .entry)) count r ≡ fieldsBy (phrasesIn (now (book .entry)) (now (own .entry)) count) 0 2 (placeAt (now (plate .entry)) at) ⌝ }
 {
     let first = accepted_text(plate, at, index, book, own, count);
@@ -110,7 +109,7 @@ fn read_printex(
     own: &[u8],
     count: usize,
 ) -> InstructionRead
-    requires { ⌜ Lent (now plate) (now index) (now book) (now own) count × Known true (fieldsBy (phrasesIn (now book) (now own) count) 0 3 (placeAt (now plate) at)) ⌝ }
+    requires { ⌜ Lent (now plate) (now index) (now book) (now own) count × Known (fieldsBy (phrasesIn (now book) (now own) count) 0 3 (placeAt (now plate) at)) ⌝ }
     ensures { λ r. ⌜ instructionRead (now (plate .entry)) (now (book .entry)) (now (own .entry)) count r ≡ fieldsBy (phrasesIn (now (book .entry)) (now (own .entry)) count) 0 3 (placeAt (now (plate .entry)) at) ⌝ }
 {
     let first = accepted_text(plate, at, index, book, own, count);
@@ -158,7 +157,7 @@ pub fn accepted_instruction(
     own: &[u8],
     count: usize,
 ) -> InstructionRead
-    requires { ⌜ Lent (now plate) (now index) (now book) (now own) count × Known true (instruction (phrasesIn (now book) (now own) count) behind (placeAt (now plate) at)) ⌝ }
+    requires { ⌜ Lent (now plate) (now index) (now book) (now own) count × Known (instruction (phrasesIn (now book) (now own) count) behind (placeAt (now plate) at)) ⌝ }
     ensures { λ r. ⌜ instructionRead (now (plate .entry)) (now (book .entry)) (now (own .entry)) count r ≡ instruction (phrasesIn (now (book .entry)) (now (own .entry)) count) behind (placeAt (now (plate .entry)) at) ⌝ }
 {
     let field = read_field(plate, at, 3, 5, Cause::Unused);

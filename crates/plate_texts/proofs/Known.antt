@@ -2,7 +2,7 @@
 use Prim.Native.Nat.{ℕ, zero, suc, _-_, _<_}
 use mathlib.Core.Path.{_≡_, refl, sym, _∙_}
 use mathlib.Core.List.{List, _∷_}
-use mathlib.Core.Bool.{Bool, true, false, false≢true}
+use mathlib.Core.Bool.{Bool, true, false}
 use native.Mathlib.Numerals.{sub-one}
 use native.Mathlib.Omega.{arith}
 use Rattle.causes.specs.declared.Cause.{Cause}
@@ -11,38 +11,34 @@ use Rattle.fields.specs.Places.{placeAt}
 use Rattle.plate_texts.specs.TextsAt.{Known}
 use Rattle.fields.proofs.Onward.{then-got, then-stopped, judged-not}
 
--- nothing is known
-pub known-none : {A : Type 0} {m : Read A} → Known false m
-known-none = record { good = λ h e. absurd (false≢true h) }
-
 -- the same reading
-pub known-same : {A : Type 0} {known : Bool} {m n : Read A} → m ≡ n → Known known n → Known known m
-known-same e w = record { good = λ h s. w .good h (s ∙ e) }
+pub known-same : {A : Type 0} {m n : Read A} → m ≡ n → Known n → Known m
+known-same e w = record { good = λ s. w .good (s ∙ e) }
 
-module _ {A B : Type 0} {known : Bool} (r : Reader A) (f : A → Reader B) (p : Place) (w : Known known ((r >>= f) p)) where
+module _ {A B : Type 0} (r : Reader A) (f : A → Reader B) (p : Place) (w : Known ((r >>= f) p)) where
   -- the first of two
-  pub known-first : Known known (r p)
-  known-first = record { good = λ h e. w .good h (then-stopped r f p e) }
+  pub known-first : Known (r p)
+  known-first = record { good = λ e. w .good (then-stopped r f p e) }
 
   -- the second, behind what was read
-  pub known-then : {a : A} {q : Place} → got a q ≡ r p → Known known (f a q)
-  known-then e = record { good = λ h s. w .good h (s ∙ then-got r f p e) }
+  pub known-then : {a : A} {q : Place} → got a q ≡ r p → Known (f a q)
+  known-then e = record { good = λ s. w .good (s ∙ then-got r f p e) }
 
 -- of several, the first and the others
-module _ {A : Type 0} {known : Bool} (r : ℕ → Reader A) (left : ℕ) (q : Place) (w : Known known (many r left q)) (more : 0 < left) where
-  pub known-one : Known known (r (left - 1) q)
+module _ {A : Type 0} (r : ℕ → Reader A) (left : ℕ) (q : Place) (w : Known (many r left q)) (more : 0 < left) where
+  pub known-one : Known (r (left - 1) q)
   unfolding many
   known-one = go left more w
     where
-      go : (k : ℕ) → 0 < k → Known known (many r k q) → Known known (r (k - 1) q)
+      go : (k : ℕ) → 0 < k → Known (many r k q) → Known (r (k - 1) q)
       go zero h w = absurd (omega arith)
       go (suc k) h w = rw sub-one (known-first (r k) (λ a. many r k >>= λ as′. return (a ∷ as′)) q w)
 
-  pub known-others : {a : A} {s : Place} → got a s ≡ r (left - 1) q → Known known (many r (left - 1) s)
+  pub known-others : {a : A} {s : Place} → got a s ≡ r (left - 1) q → Known (many r (left - 1) s)
   unfolding many
   known-others {a} {s} e = go left more w e
     where
-      go : (k : ℕ) → 0 < k → Known known (many r k q) → got a s ≡ r (k - 1) q → Known known (many r (k - 1) s)
+      go : (k : ℕ) → 0 < k → Known (many r k q) → got a s ≡ r (k - 1) q → Known (many r (k - 1) s)
       go zero h w e = absurd (omega arith)
       go (suc k) h w e =
           let e′ = rw sub-one at e in
@@ -50,14 +46,14 @@ module _ {A : Type 0} {known : Bool} (r : ℕ → Reader A) (left : ℕ) (q : Pl
           (known-then (r k) (λ a. many r k >>= λ as′. return (a ∷ as′)) q w e′))
 
 -- a test that is known to hold changes nothing
-module _ {A : Type 0} {known : Bool} (r : Reader A) (test : A → Bool) (cause : Cause) (plate : List ℕ) (at : ℕ)
-    (w : Known known (judged r test cause (placeAt plate at))) (k : known ≡ true) where
+module _ {A : Type 0} (r : Reader A) (test : A → Bool) (cause : Cause) (plate : List ℕ) (at : ℕ)
+    (w : Known (judged r test cause (placeAt plate at))) where
   pub known-judged : r (placeAt plate at) ≡ judged r test cause (placeAt plate at)
   unfolding judged
   known-judged = go (r (placeAt plate at)) refl
     where
       good : (a : A) (q : Place) → got a q ≡ r (placeAt plate at) → test a ≡ false → ⊥
-      good a q e h = w .good k (judged-not r test cause plate at e h)
+      good a q e h = w .good (judged-not r test cause plate at e h)
 
       by : (a : A) (q : Place) → got a q ≡ r (placeAt plate at) → (b : Bool) → test a ≡ b
           → got a q ≡ judgeRead test cause (placeAt plate at .at) (got a q)

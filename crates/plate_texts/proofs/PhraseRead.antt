@@ -18,13 +18,15 @@ use Rattle.phrases.proofs.Entries.{indexed-count}
 use Rattle.phrases.proofs.Texts.{phrase-in-own, phrase-in-book}
 use Rattle.fields.specs.declared.Field.{Field}
 use Rattle.fields.specs.declared.Field.the-variants.{Is, Refused}
+use Rattle.plate_texts.specs.declared.TextAt.the-variants.{Phrase}
 use Rattle.plate_texts.specs.declared.TextRead.{TextRead}
+use Rattle.plate_texts.specs.declared.TextRead.the-variants as texts
 use Rattle.plate.specs.Reading.{Place, got, stopped, Reader, number, judged, return}
 use Rattle.plate.specs.Plate.{phraseAt, phrase}
 use Rattle.fields.specs.Places.{placeAt, fieldRead, endWith}
 use Rattle.plate_texts.specs.declared.phrase_place.Source.{Source}
 use Rattle.plate_texts.specs.Sources.{source, sourceRead}
-use Rattle.plate_texts.specs.TextsAt.{textAt, textsRead, phraseOf, Lent, Known}
+use Rattle.plate_texts.specs.TextsAt.{textAt, textsRead, Lent, Known}
 use Rattle.plate_texts.proofs.SourceRead.{by-source, Sourced, sourced}
 use Rattle.plate_texts.proofs.Known.{known-same, known-first, known-then, known-judged}
 use Rattle.plate.proofs.Readers.{gives-number, gives-judged}
@@ -48,6 +50,11 @@ place-alike (suc n) r plate at h =
     judged-alike r (λ i. ltb i (suc n)) Unused plate at (λ i. leb i (suc n - 1)) (λ i. rw sub-one (sym (leb·suc-suc i n)))
 
 -- ---- the phrase there
+
+-- a phrase whose place the code read
+abbrev pub phraseOf : Field → Bool → TextRead
+phraseOf (Is i next) isOwn = texts.Is (Phrase isOwn i) next
+phraseOf (Refused r) isOwn = texts.Refused r
 
 module _ (plate book own : List ℕ) (at : ℕ) (isOwn : Bool) (ts : List Text)
     (there : (i : ℕ) → i < length ts → phraseIn book own isOwn i ≡ getD ts i []) where
@@ -100,14 +107,14 @@ module _ {plate index book own : List ℕ} {count : ℕ} (l : Lent plate index b
           ∙ by-source (bookTexts book) (ownTexts count own) here
 
       -- where the phrase is known to be good, its place need not be judged
-      pub place-known : Known true (phrase (bookTexts book) (ownTexts count own) here)
+      pub place-known : Known (phrase (bookTexts book) (ownTexts count own) here)
           → number (width n) (placeAt plate next) ≡ judged (number (width n)) (λ i. ltb i n) Unused (placeAt plate next)
       unfolding phraseAt
       place-known w =
           rw (s .all) (known-judged (number (width (length (cond isOwn (ownTexts count own) (bookTexts book))))) _ Unused plate next
           (known-first _ _ _
           (known-then _ (λ s. phraseAt (cond (s .0) (ownTexts count own) (bookTexts book))) here
-          (known-same (by-source (bookTexts book) (ownTexts count own) here) w) e)) refl)
+          (known-same (by-source (bookTexts book) (ownTexts count own) here) w) e)))
 
 -- only the end of a phrase
 pub phrase-ended : (plate book own : List ℕ) (f : Field) (isOwn : Bool)

@@ -13,8 +13,6 @@ use Rattle.text.specs.Text.{Text}
 use Rattle.phrases.specs.Lookup.{phraseIn, ownTexts}
 use Rattle.phrases.specs.Index.{Indexed}
 use Rattle.plate.specs.Reading.{Read, got, stopped}
-use Rattle.fields.specs.declared.Field as field
-use Rattle.fields.specs.declared.Field.the-variants as fields
 use Rattle.fields.specs.Places.{placeAt, charactersIn}
 use Rattle.plate_texts.specs.declared.TextAt.{TextAt}
 use Rattle.plate_texts.specs.declared.TextAt.the-variants.{Spelled, Phrase}
@@ -36,11 +34,6 @@ abbrev pub textRefusal : textRead.TextRead → Refusal
 textRefusal (texts.Is t next) = record { cause = PlateEnds; place = next }
 textRefusal (texts.Refused r) = r
 
--- a phrase whose place the code read
-abbrev pub phraseOf : field.Field → Bool → textRead.TextRead
-phraseOf (fields.Is i next) isOwn = texts.Is (Phrase isOwn i) next
-phraseOf (fields.Refused r) isOwn = texts.Refused r
-
 -- what the readers of texts ask: a plate of at most 2,953 bytes, the index of the book, at most 32 own phrases, all there
 pub record Lent (plate index book own : List ℕ) (count : ℕ) : Type 0 where
   pub short : length plate ≤ 2953
@@ -48,9 +41,9 @@ pub record Lent (plate index book own : List ℕ) (count : ℕ) : Type 0 where
   pub few : count ≤ 32
   pub whole : length (ownTexts count own) ≡ count
 
--- where this is known, what is read is no refusal
-pub record Known {A : Type 0} (known : Bool) (m : Read A) : Type 0 where
-  pub good : known ≡ true → {cause : Cause} {bit : ℕ} → stopped cause bit ≡ m → ⊥
+-- what is read is known to be no refusal
+pub record Known {A : Type 0} (m : Read A) : Type 0 where
+  pub good : {cause : Cause} {bit : ℕ} → stopped cause bit ≡ m → ⊥
 
 -- the code of a text, with n phrases
 abbrev pub codeWith : ℕ → ℕ → Bool

@@ -7,7 +7,6 @@ use crate::spelled_text::accepted_spelled;
 use crate::text_at::read_code;
 use fields::Field;
 ghost use mathlib.Core.Path.{_≡_};
-ghost use mathlib.Core.Bool.{true};
 ghost use Prim.Native.Nat.{_+_, _≤_};
 ghost use lib.ListN.{length};
 ghost use Rattle.phrases.specs.Lookup.{phrasesIn};
@@ -25,7 +24,7 @@ pub fn accepted_text(
     own: &[u8],
     count: usize,
 ) -> TextRead
-    requires { ⌜ Lent (now plate) (now index) (now book) (now own) count × Known true (reader.text (phrasesIn (now book) (now own) count) (placeAt (now plate) at)) ⌝ }
+    requires { ⌜ Lent (now plate) (now index) (now book) (now own) count × Known (reader.text (phrasesIn (now book) (now own) count) (placeAt (now plate) at)) ⌝ }
     ensures { λ r. ⌜ textsRead (now (plate .entry)) (now (book .entry)) (now (own .entry)) r ≡ reader.text (phrasesIn (now (book .entry)) (now (own .entry)) count) (placeAt (now (plate .entry)) at) ⌝ }
 {
     let field = read_code(plate, at, phrases::count_of(index) + count);
@@ -44,7 +43,7 @@ pub fn accepted_text(
 
 // The bit behind a text.
 fn text_end(plate: &[u8], at: usize, index: &[u32], book: &[u8], own: &[u8], count: usize) -> usize
-    requires { ⌜ Lent (now plate) (now index) (now book) (now own) count × Known true (reader.text (phrasesIn (now book) (now own) count) (placeAt (now plate) at)) ⌝ }
+    requires { ⌜ Lent (now plate) (now index) (now book) (now own) count × Known (reader.text (phrasesIn (now book) (now own) count) (placeAt (now plate) at)) ⌝ }
     ensures { λ r. ⌜ got 0 (placeAt (now (plate .entry)) r) ≡ endWith 0 (reader.text (phrasesIn (now (book .entry)) (now (own .entry)) count) (placeAt (now (plate .entry)) at)) ⌝ }
 {
     let field = read_code(plate, at, phrases::count_of(index) + count);
@@ -71,7 +70,7 @@ pub fn texts_end(
     own: &[u8],
     count: usize,
 ) -> usize
-    requires { ⌜ Lent (now plate) (now index) (now book) (now own) count × Known true (many (λ j. reader.text (phrasesIn (now book) (now own) count)) n (placeAt (now plate) at)) ⌝ }
+    requires { ⌜ Lent (now plate) (now index) (now book) (now own) count × Known (many (λ j. reader.text (phrasesIn (now book) (now own) count)) n (placeAt (now plate) at)) ⌝ }
     ensures { λ r. ⌜ got n (placeAt (now (plate .entry)) r) ≡ endWith n (many (λ j. reader.text (phrasesIn (now (book .entry)) (now (own .entry)) count)) n (placeAt (now (plate .entry)) at)) ⌝ }
 {
     let mut bit = at;

@@ -1,6 +1,5 @@
 // A phrase by its place: in the book, or among the own phrases. It is judged where it is read first; where it was read before, no more.
 ghost use mathlib.Core.Path.{_≡_};
-ghost use mathlib.Core.Bool.{true};
 ghost use Prim.Native.Nat.{_+_, _≤_, _<_};
 ghost use lib.ListN.{length, getD};
 ghost use lib.Dec.{ltb};
@@ -103,7 +102,7 @@ pub fn accepted_phrase(
     own: &[u8],
     count: usize,
 ) -> TextRead
-    requires { ⌜ Lent (now plate) (now index) (now book) (now own) count × (0 < getD (now index) 0 0 + count) × Known true (phrase (bookTexts (now book)) (ownTexts count (now own)) (placeAt (now plate) at)) ⌝ }
+    requires { ⌜ Lent (now plate) (now index) (now book) (now own) count × (0 < getD (now index) 0 0 + count) × Known (phrase (bookTexts (now book)) (ownTexts count (now own)) (placeAt (now plate) at)) ⌝ }
     ensures { λ r. ⌜ textsRead (now (plate .entry)) (now (book .entry)) (now (own .entry)) r ≡ phrase (bookTexts (now (book .entry))) (ownTexts count (now (own .entry))) (placeAt (now (plate .entry)) at) ⌝ }
 {
     let source = read_source(plate, at, phrases::count_of(index), count);
@@ -126,7 +125,7 @@ pub fn phrase_end(
     own: &[u8],
     count: usize,
 ) -> usize
-    requires { ⌜ Lent (now plate) (now index) (now book) (now own) count × (0 < getD (now index) 0 0 + count) × Known true (phrase (bookTexts (now book)) (ownTexts count (now own)) (placeAt (now plate) at)) ⌝ }
+    requires { ⌜ Lent (now plate) (now index) (now book) (now own) count × (0 < getD (now index) 0 0 + count) × Known (phrase (bookTexts (now book)) (ownTexts count (now own)) (placeAt (now plate) at)) ⌝ }
     ensures { λ r. ⌜ got 0 (placeAt (now (plate .entry)) r) ≡ endWith 0 (phrase (bookTexts (now (book .entry))) (ownTexts count (now (own .entry))) (placeAt (now (plate .entry)) at)) ⌝ }
 {
     let source = read_source(plate, at, phrases::count_of(index), count);

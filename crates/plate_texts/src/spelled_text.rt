@@ -1,6 +1,6 @@
 // A text that is spelled out: its characters up to ETX, judged as a whole at its first bit.
 ghost use mathlib.Core.Path.{_≡_};
-ghost use mathlib.Core.Bool.{true, _&&_};
+ghost use mathlib.Core.Bool.{_&&_};
 ghost use Prim.Native.Nat.{_≤_};
 ghost use lib.ListN.{length, drop};
 ghost use Rattle.bits.specs.Bits.{bytesBits};
@@ -93,7 +93,7 @@ pub fn accepted_spelled(
     own: &[u8],
     count: usize,
 ) -> Field
-    requires { ⌜ (length (now plate) ≤ 2953) × Indexed (now index) (now book) × Known true (spelled (bookTexts (now book)) (ownTexts count (now own)) (placeAt (now plate) at)) ⌝ }
+    requires { ⌜ (length (now plate) ≤ 2953) × Indexed (now index) (now book) × Known (spelled (bookTexts (now book)) (ownTexts count (now own)) (placeAt (now plate) at)) ⌝ }
     ensures { λ r. ⌜ sizeRead (now (plate .entry)) at r ≡ spelled (bookTexts (now (book .entry))) (ownTexts count (now (own .entry))) (placeAt (now (plate .entry)) at) ⌝ }
 {
     read_size(plate, at)

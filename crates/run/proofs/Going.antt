@@ -75,10 +75,10 @@ module _ (plate book own : List ℕ) (count : ℕ) where
 
   module _ (left bit : ℕ) (t : Continues plate book own count left bit) where
     -- the first of them is known to be good
-    pub instruction-known : 0 < left → Known true (reader.instruction (phrasesIn book own count) (left - 1) (placeAt plate bit))
+    pub instruction-known : 0 < left → Known (reader.instruction (phrasesIn book own count) (left - 1) (placeAt plate bit))
     unfolding instructionsAt
     instruction-known h =
-        record { good = λ k e. next-there (reader.instruction (phrasesIn book own count)) plate left bit t h e }
+        record { good = λ e. next-there (reader.instruction (phrasesIn book own count)) plate left bit t h e }
 
     module _ (f : InstructionRead)
         (e : instructionRead plate book own count f ≡ reader.instruction (phrasesIn book own count) (left - 1) (placeAt plate bit)) where

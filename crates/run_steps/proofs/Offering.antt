@@ -38,9 +38,9 @@ module _ (plate book own : List ℕ) (count : ℕ) where
 
   -- the first of them is known to be good
   pub option-known : (left bit : ℕ) → Offers plate book own count left bit → 0 < left
-      → Known true (reader.text (phrasesIn book own count) (placeAt plate bit))
+      → Known (reader.text (phrasesIn book own count) (placeAt plate bit))
   unfolding textsAt
-  option-known left bit o h = record { good = λ k e. next-there texts-from plate left bit (o .there) h e }
+  option-known left bit o h = record { good = λ e. next-there texts-from plate left bit (o .there) h e }
 
   module _ (left bit : ℕ) (o : Offers plate book own count left bit) (f : TextRead)
       (e : textsRead plate book own f ≡ reader.text (phrasesIn book own count) (placeAt plate bit)) where

@@ -24,7 +24,7 @@ loop-holds : tie.Need-loop-holds Inv-loop μ-loop
 loop-holds c = (left-all options-pieces _ _ _ _ (c .before .before .before .before .before .pre .1) (omega arith), refl)
 
 accepted-text-requires : tie.Need-accepted-text-requires Inv-loop μ-loop
-accepted-text-requires c κs = (search needs, record { good = λ h e. left-read options-pieces _ _ _ (c .before .loop .inv .0) (omega arith) e })
+accepted-text-requires c κs = (search needs, record { good = λ e. left-read options-pieces _ _ _ (c .before .loop .inv .0) (omega arith) e })
 
 enum-known-option : tie.Need-enum-known-option Inv-loop μ-loop
 enum-known-option c = search needs

@@ -51,7 +51,7 @@ enum-told c = search needs
 
 returns : tie.Need-returns
 unfolding reader.text
-returns c = absurd (c .before .before .before .before .before .before .before .before .pre .1 .good refl (then-stopped _ _ _ (field-refused _ _ (code-read (c .before .before)) (c .enum-told .given .1))))
+returns c = absurd (c .before .before .before .before .before .before .before .before .pre .1 .good (then-stopped _ _ _ (field-refused _ _ (code-read (c .before .before)) (c .enum-told .given .1))))
 
 phrase-end-requires : tie.Need-phrase-end-requires
 unfolding reader.text
@@ -74,7 +74,7 @@ enum-told-2 c = search needs
 
 returns-3 : tie.Need-returns-3
 unfolding reader.text
-returns-3 c = absurd (c .before .before .before .before .before .before .before .before .before .before .before .before .before .pre .1 .good refl (answered (sizeRead (c .before .before .before .before .before .before .before .before .before .before .before .before .before .args .plate .now) _) refusalOf (c .before .before .accepted-spelled .ensures) (c .enum-told2 .given .1)
+returns-3 c = absurd (c .before .before .before .before .before .before .before .before .before .before .before .before .before .pre .1 .good (answered (sizeRead (c .before .before .before .before .before .before .before .before .before .before .before .before .before .args .plate .now) _) refusalOf (c .before .before .accepted-spelled .ensures) (c .enum-told2 .given .1)
     ∙ by-spelled _ _ _ (c .before .before .before .if1 .left) ∙ then-got _ _ _ (field-got _ _ (code-read (c .before .before .before .before .before .before .before)) (c .before .before .before .before .before .field .given .1))))
 
 returns-4 : tie.Need-returns-4

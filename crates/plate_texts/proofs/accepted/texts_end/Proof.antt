@@ -1,5 +1,4 @@
 -- `texts_end` meets its contract. The loop's invariant: what is left ends where all of it ends. The measure is what is left.
-use mathlib.Core.Bool.{true}
 use native.Mathlib.Omega.{arith}
 use borrow.Author.Needs.{needs}
 use Rattle.phrases.specs.Lookup.{phrasesIn}
@@ -16,7 +15,7 @@ use Rattle.plate_texts.proofs.accepted.texts_end.Tie as tie
 abbrev Inv-loop : tie.InvT-loop
 Inv-loop plate at n index book own count bit₀ left₀ bit left =
     Passing (λ j. reader.text (phrasesIn book own count)) (placeAt plate at) n left (placeAt plate bit)
-    × Known true (many (λ j. reader.text (phrasesIn book own count)) left (placeAt plate bit))
+    × Known (many (λ j. reader.text (phrasesIn book own count)) left (placeAt plate bit))
 
 abbrev μ-loop : tie.MeasureT-loop
 μ-loop plate at n index book own count bit₀ left₀ bit left = left

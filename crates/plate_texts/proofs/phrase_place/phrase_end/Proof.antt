@@ -5,8 +5,8 @@ use borrow.Author.Needs.{needs}
 use Rattle.fields.specs.Places.{endWith, refusalOf}
 use Rattle.fields.proofs.Answers.{answered, refused, field-got, field-refused}
 use Rattle.plate_texts.specs.Sources.{sourceRead, sourceRefusal}
-use Rattle.plate_texts.specs.TextsAt.{textsRead, phraseOf}
-use Rattle.plate_texts.proofs.PhraseRead.{width-small, source-of, source-stopped, source-good, phrase-read, place-known, phrase-ended}
+use Rattle.plate_texts.specs.TextsAt.{textsRead}
+use Rattle.plate_texts.proofs.PhraseRead.{phraseOf, width-small, source-of, source-stopped, source-good, phrase-read, place-known, phrase-ended}
 use Rattle.plate_texts.proofs.phrase_place.phrase_end.Statement.{statement}
 use Rattle.plate_texts.proofs.phrase_place.phrase_end.Tie as tie
 use Rattle.plate_texts.proofs.phrase_place.phrase_end.Reads as reads
@@ -29,7 +29,7 @@ enum-told : tie.Need-enum-told
 enum-told c = search needs
 
 returns : tie.Need-returns
-returns c = absurd (c .before .before .before .before .before .before .before .before .pre .2 .good refl
+returns c = absurd (c .before .before .before .before .before .before .before .before .pre .2 .good
     (source-stopped (c .before .before .before .before .before .before .before .before .pre .0) (c .before .before .before .before .before .before .before .before .args .at)
     (answered (sourceRead (c .before .before .before .before .before .before .before .before .args .plate .now)) sourceRefusal (source-of (c .before .before .before .before .before .before .before .before .pre .0) (c .before .before .before .before .before .before .before .before .args .at) _ (c .before .before .read-source .result) (c .before .before .before .count-of .ensures) (c .before .before .read-source .ensures)) (c .enum-told .given .1))))
 
@@ -52,7 +52,7 @@ enum-told-2 c = search needs
 returns-2 : tie.Need-returns-2
 returns-2 c = let e = answered (sourceRead (c .before .before .before .before .before .before .before .before .before .before .before .before .before .args .plate .now)) sourceRefusal (source-of (c .before .before .before .before .before .before .before .before .before .before .before .before .before .pre .0) (c .before .before .before .before .before .before .before .before .before .before .before .before .before .args .at) _ (c .before .before .before .before .before .before .before .read-source .result) (c .before .before .before .before .before .before .before .before .count-of .ensures) (c .before .before .before .before .before .before .before .read-source .ensures)) (c .before .before .before .before .before .source .given .1) in
     let good = source-good (c .before .before .before .before .before .before .before .before .before .before .before .before .before .pre .0) (c .before .before .before .before .before .before .before .before .before .before .before .before .before .args .at) _ _ _ e (c .before .before .before .before .before .before .before .before .before .before .before .before .before .pre .1) in
-    absurd (c .before .before .before .before .before .before .before .before .before .before .before .before .before .pre .2 .good refl
+    absurd (c .before .before .before .before .before .before .before .before .before .before .before .before .before .pre .2 .good
     (answered (λ f. textsRead (c .before .before .before .before .before .before .before .before .before .before .before .before .before .args .plate .now) (c .before .before .before .before .before .before .before .before .before .before .before .before .before .args .book .now) (c .before .before .before .before .before .before .before .before .before .before .before .before .before .args .own .now) (phraseOf f (c .before .before .before .before .before .source .given .0 .0))) refusalOf
     (phrase-read (c .before .before .before .before .before .before .before .before .before .before .before .before .before .pre .0) (c .before .before .before .before .before .before .before .before .before .before .before .before .before .args .at) _ _ _ e good (c .before .before .read-plain .result) ((rw (c .before .before .before .width-of .ensures) at (c .before .before .read-plain .ensures)) ∙ place-known (c .before .before .before .before .before .before .before .before .before .before .before .before .before .pre .0) (c .before .before .before .before .before .before .before .before .before .before .before .before .before .args .at) _ _ _ e good (c .before .before .before .before .before .before .before .before .before .before .before .before .before .pre .2)))
     (c .enum-told2 .given .1)))

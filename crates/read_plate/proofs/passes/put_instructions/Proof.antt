@@ -29,7 +29,7 @@ sub-accepted-instruction : tie.Need-sub-accepted-instruction Inv-loop μ-loop
 sub-accepted-instruction c = search needs
 
 accepted-instruction-requires : tie.Need-accepted-instruction-requires Inv-loop μ-loop
-accepted-instruction-requires c κs = (search needs, record { good = λ h e. left-read (lines-pieces instructionFields) _ _ _ (c .before .loop .inv .0) (omega arith) e })
+accepted-instruction-requires c κs = (search needs, record { good = λ e. left-read (lines-pieces instructionFields) _ _ _ (c .before .loop .inv .0) (omega arith) e })
 
 enum-known-read : tie.Need-enum-known-read Inv-loop μ-loop
 enum-known-read c = search needs

@@ -11,8 +11,8 @@ use Rattle.text.specs.Text.{Text}
 use Rattle.plate.specs.Program.{Program}
 use Rattle.plate.specs.Writing.{programBits, plateBytes}
 use Rattle.listing.specs.Listing.{firstPast}
-use Rattle.writer.specs.Plates.{lentPlate, lentBits}
-use Rattle.writer.proofs.LentPlates.{lent-plate}
+use Rattle.plate_room.specs.Plates.{lentPlate, lentBits}
+use Rattle.plate_room.proofs.LentPlates.{lent-plate}
 use Rattle.assemble.specs.declared.Made.{Made}
 use Rattle.assemble.specs.declared.Made.the-variants.{Bits, Past}
 use Rattle.assemble.specs.Assembled.{lentProgram, Produced}

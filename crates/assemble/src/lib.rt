@@ -45,7 +45,7 @@ fn produce(
     requires { ⌜ (length (now out) ≤ 2953) × Listed (now index) (now book) (now text) own × Counted form (now skips) (now text) instructions ⌝ }
     ensures { λ r. ⌜ Produced (bookTexts (now (book .entry))) own (programIn form (now (skips .entry)) (now (text .entry)) own) (now (out .entry)) r (now (out .exit)) ⌝ }
 {
-    let mut end = writer::put_front(out, text, own, instructions);
+    let mut end = plate_room::put_front(out, text, own, instructions);
     let mut left = instructions;
     let mut a = 0;
     while a < text.len() {
@@ -61,7 +61,7 @@ fn produce(
         left = behind;
         a = e + 1;
     }
-    Made::Bits(writer::put_fill(out, end))
+    Made::Bits(plate_room::put_fill(out, end))
 }
 
 // The plate of an accepted text, in a lent buffer. `own` and `instructions` are what the check counts.
@@ -93,6 +93,6 @@ pub fn write(
             cause: Cause::Skip,
             place: line,
         }),
-        Made::Bits(bits) => writer::lend(&array, bits, plate),
+        Made::Bits(bits) => plate_room::lend(&array, bits, plate),
     }
 }

@@ -2,4 +2,4 @@
 // specs/Program.antt says what a plate holds, specs/Writing.antt which bits it is, specs/Reading.antt what a reader of bits is, and
 // specs/Plate.antt how a plate is read, with causes 8, 10 and 12 to 15 at the exact bit. proofs/RoundTrip.antt: what was written is
 // read, and what was read is written.
-// Crate writer writes the bits; fields, instructions and reader read them.
+// Crates text_bits, writer and plate_room write the bits; fields, instructions and reader read them.

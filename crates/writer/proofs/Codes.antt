@@ -1,5 +1,5 @@
--- A code and the field behind it, as one number; and a number with a text's first bits behind it.
-use Prim.Native.Nat.{ℕ, _+_, _*_, _%_, _<_}
+-- A code and the field behind it, as one number.
+use Prim.Native.Nat.{ℕ, _+_, _*_, _%_}
 use native.Mathlib.Omega.{arith}
 use mathlib.Core.Path.{_≡_}
 use mathlib.Core.List.{_++_}
@@ -15,17 +15,3 @@ register-alone register = let e : 0 + register % 32 ≡ register % 32 = omega ar
 
 pub goto-skip : (skip : ℕ) → bitsOf 12 (2048 + skip % 512) ≡ bitsOf 3 4 ++ bitsOf 9 skip
 goto-skip skip = bits-behind 3 9 4 skip
-
--- w bits of v, and behind them the first bits of a text: 00 where it is spelled, 10 where it is a phrase, and the bit that says book or own
-module _ (w v : ℕ) where
-  pub spelled-code : bitsOf (w + 2) (v * 4) ≡ bitsOf w v ++ bitsOf 2 0
-  spelled-code = let e : v * 4 + 0 ≡ v * 4 = omega arith in rw e at (bits-behind w 2 v 0)
-
-  pub phrase-code : bitsOf (w + 2) (v * 4 + 2) ≡ bitsOf w v ++ bitsOf 2 2
-  phrase-code = bits-behind w 2 v 2
-
-  pub source-code : (s : ℕ) → s < 2 → bitsOf (w + 3) ((v * 4 + 2) * 2 + s) ≡ bitsOf w v ++ bitsOf 2 2 ++ bitsOf 1 s
-  source-code s h =
-      let wide : w + 2 + 1 ≡ w + 3 = omega arith in
-      let low : s % 2 ≡ s = omega arith in
-      rw (← phrase-code) (rw (wide, low) at (bits-behind (w + 2) 1 (v * 4 + 2) s))

@@ -12,9 +12,9 @@ ghost use Rattle.phrases.specs.Index.{Listed};
 ghost use Rattle.transcript.specs.Statement.{input, inputs, print, printex};
 ghost use Rattle.plate.specs.Program.{goto, ifSkip};
 ghost use Rattle.plate.specs.Writing.{opCode, textBits, statementBits, instructionBits};
-use crate::constants::put_constant;
-use crate::texts::put_text;
-use crate::texts::put_texts;
+use text_bits::put_constant;
+use text_bits::put_text;
+use text_bits::put_texts;
 use transcript::Op;
 use transcript::Test;
 

@@ -8,8 +8,8 @@ use borrow.Author.Needs.{needs}
 use Rattle.phrases.specs.Lookup.{phrasesIn}
 use Rattle.lines.specs.Check.{linesOf}
 use Rattle.plate.specs.Writing.{instructionsBits, programBits}
-use Rattle.writer.proofs.Writes.{both, Left, begun, turned, done}
-use Rattle.writer.proofs.Plates.{filling}
+use Rattle.text_bits.proofs.Writes.{both, Left, begun, turned, done}
+use Rattle.plate_room.proofs.Plates.{filling}
 use Rattle.assemble.specs.LineCode.{linesCode}
 use Rattle.assemble.specs.Assembled.{Produced}
 use Rattle.assemble.proofs.Ahead.{first-clean}

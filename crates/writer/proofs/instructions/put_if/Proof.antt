@@ -2,7 +2,7 @@
 use mir.Syntax.{w32}
 use mir.Facts.{toZ-ofZ}
 use borrow.Author.Needs.{needs}
-use Rattle.writer.proofs.Writes.{both}
+use Rattle.text_bits.proofs.Writes.{both}
 use Rattle.writer.proofs.instructions.put_if.Statement.{statement}
 use Rattle.writer.proofs.instructions.put_if.Tie as tie
 

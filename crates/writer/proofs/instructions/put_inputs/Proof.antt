@@ -1,7 +1,7 @@
 -- `put_inputs` meets its contract: the fields of the line, one behind the other; the code and the register are one number.
 use borrow.Author.Needs.{needs}
 use Rattle.writer.proofs.Codes.{code-register}
-use Rattle.writer.proofs.Writes.{both}
+use Rattle.text_bits.proofs.Writes.{both}
 use Rattle.writer.proofs.instructions.put_inputs.Statement.{statement}
 use Rattle.writer.proofs.instructions.put_inputs.Tie as tie
 

@@ -1,0 +1,3 @@
+pub mod OwnBits
+pub mod Plates
+pub mod LentPlates

@@ -1,0 +1,5 @@
+pub mod Writes
+pub mod TextBits
+pub mod Characters
+pub mod Complements
+pub mod Codes

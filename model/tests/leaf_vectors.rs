@@ -77,14 +77,40 @@ fn bits_at_every_offset() {
             seen.insert((written, 9, 0, false));
         }
     }
-    for written in [false, true] {
-        for (width, offset) in (0..=32).flat_map(|width| (0..8).map(move |bit| (width, bit))) {
+    for (written, widest) in [(false, 32), (true, 56)] {
+        for (width, offset) in (0..=widest).flat_map(|width| (0..8).map(move |bit| (width, bit))) {
             assert!(seen.contains(&(written, offset, width, true)), "{width} at {offset}");
             assert!(width == 0 || seen.contains(&(written, offset, width, false)));
             assert!(width < 2 || seen.contains(&(written, 8, width, false)));
         }
         assert!(seen.contains(&(written, 9, 0, false)));
     }
+}
+
+/// Every width past 32 is written as ones and as ones and zeros in turn, with room
+/// for all, some and none of the bits.
+#[test]
+fn wide_values() {
+    let mut seen = HashSet::new();
+    for case in bits::collect() {
+        let bits::Case::Write { lent, place, width, value } = case else { continue };
+        let room = (lent as u64 * 8).saturating_sub(place);
+        seen.insert((width, value, room > 0, room >= width as u64));
+    }
+    let turns = u64::MAX / 3;
+    for width in 33..=56 {
+        for value in [(1 << width) - 1, u64::MAX, turns, !turns] {
+            for (any, all) in [(false, false), (true, false), (true, true)] {
+                assert!(seen.contains(&(width, value, any, all)), "{value:X} of {width}");
+            }
+        }
+    }
+}
+
+/// The number of so many bits at a place, bit by bit.
+fn bit_by_bit(bytes: &[u8], place: u64, width: usize) -> Option<u64> {
+    (place..place + width as u64)
+        .try_fold(0, |value, at| Some(value << 1 | u64::from(bits::read(bytes, at, 1)?)))
 }
 
 /// What is written is read back, and every other bit stays.
@@ -97,7 +123,10 @@ fn bits_written_are_read() {
         let end = bits::put(&mut after, place, width, value);
         if width > 0 && end <= lent as u64 * 8 {
             let low = value & ((1 << width) - 1);
-            assert_eq!(bits::read(&after, place, width).map(u64::from), Some(low));
+            assert_eq!(bit_by_bit(&after, place, width), Some(low));
+            if width <= 32 {
+                assert_eq!(bits::read(&after, place, width).map(u64::from), Some(low));
+            }
         }
         let [mut old, mut new] = [BitReader::new(&before), BitReader::new(&after)];
         for at in 0..lent as u64 * 8 {
@@ -142,6 +171,8 @@ fn lines_of_bits() {
     assert_eq!(write(1, 6, 4, 0b1011), "10,0E\n");
     assert_eq!(write(0, 7, 32, 5), "39,\n");
     assert_eq!(write(2, u64::MAX - 3, 32, 5), format!("{},0D14\n", u64::MAX));
+    assert_eq!(write(8, 4, 56, 0xFF12_3456_789A_BCDE), "60,0123456789ABCDEE\n");
+    assert_eq!(write(9, 7, 55, u64::MAX), "62,0DFFFFFFFFFFFFFE45\n");
 }
 
 /// Some lines of the format, by hand.

@@ -32,7 +32,7 @@ fn read_case(s: &[u8], start: usize) -> usize {
 
 // A number written into a lent buffer: the place behind it, and the whole buffer.
 fn write_number(out: &mut [u8], place: usize, width: usize, value: usize)
-    requires { ⌜ width ≤ 32 ⌝ }
+    requires { ⌜ width ≤ 56 ⌝ }
 {
     vectors::fill(out);
     vectors::write_natural(bits::put_bits(out, place, width, value));
@@ -48,7 +48,7 @@ fn write_case(s: &[u8], at: usize, space: &mut [u8]) -> usize {
     let width = vectors::number(s, vectors::past(at, 12));
     let value = vectors::long_number(s, vectors::past(at, 16));
     let next = vectors::past(at, 24);
-    if 32 < width {
+    if 56 < width {
         return next;
     }
     write_number(&mut space[..length], place, width, value);

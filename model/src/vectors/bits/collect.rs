@@ -1,17 +1,18 @@
-//! The cases of `vectors_bits`.
+//! The cases of `vectors_bits`; here those of numbers of 0 to 32 bits.
 
-use super::Case;
+use super::{wide, Case};
 use crate::rng::Rng;
+use std::ops::RangeInclusive;
 
 const SEED: u64 = 0x5EED_0011;
-const WIDTHS: std::ops::RangeInclusive<usize> = 0..=32;
+const WIDTHS: RangeInclusive<usize> = 0..=32;
 /// The longest buffer whose ends are all tried.
-const LONGEST: u64 = 12;
+pub const LONGEST: u64 = 12;
 const RANDOM: usize = 500;
 
 /// Places that are far past the end, and where eight times a place, or a place
 /// and a width, pass 2^32 or 2^64.
-const FAR: [u64; 20] = [
+pub const FAR: [u64; 20] = [
     (1 << 29) - 1,
     1 << 29,
     (1 << 32) - 1,
@@ -39,9 +40,10 @@ pub fn collect() -> Vec<Case> {
     let mut cases = Vec::new();
     reads_at_ends(&mut rng, &mut cases);
     at_offsets(&mut rng, &mut cases);
-    writes_into_lengths(&mut rng, &mut cases);
+    writes_into_lengths(&mut rng, WIDTHS, &mut cases);
     far(&mut rng, &mut cases);
     random(&mut rng, &mut cases);
+    wide::collect(&mut cases);
     cases
 }
 
@@ -54,7 +56,7 @@ fn bytes(rng: &mut Rng, length: u64) -> Vec<u8> {
 }
 
 /// A value: all ones, a single one, only bits that do not count, or any.
-fn value(rng: &mut Rng, width: usize) -> u64 {
+pub fn value(rng: &mut Rng, width: usize) -> u64 {
     let low = (1 << width) - 1;
     match rng.below(6) {
         0 => low,
@@ -110,11 +112,11 @@ fn at_offsets(rng: &mut Rng, cases: &mut Vec<Case>) {
     }
 }
 
-/// Every width, the last bits of it past the end of each length; and lengths
-/// about the longest that is shown in full.
-fn writes_into_lengths(rng: &mut Rng, cases: &mut Vec<Case>) {
+/// Each of the widths, the last bits of it past the end of each length; and
+/// lengths about the longest that is shown in full.
+pub fn writes_into_lengths(rng: &mut Rng, widths: RangeInclusive<usize>, cases: &mut Vec<Case>) {
     for length in (0..=LONGEST).chain([63, 64, 65, 200, 256]) {
-        for width in WIDTHS {
+        for width in widths.clone() {
             let end = length * 8;
             let place = (end + rng.below(3) as u64).saturating_sub(rng.below(width + 1) as u64);
             let value = value(rng, width);

@@ -1,6 +1,7 @@
 //! The cases of `vectors_bits`: numbers read and written at a bit of a buffer.
 
 mod collect;
+mod wide;
 
 pub use collect::collect;
 

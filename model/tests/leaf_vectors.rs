@@ -21,6 +21,7 @@ fn bit_case(cursor: &mut Cursor) -> bits::Case {
             width: cursor.number(),
             value: cursor.long_number(),
         },
+        2 => bits::Case::ReadEight { bytes: cursor.slice(), place: cursor.long_number() },
         kind => panic!("no kind {kind}"),
     }
 }
@@ -66,6 +67,7 @@ fn bits_at_every_offset() {
         let (written, length, place, width) = match case {
             bits::Case::Read { bytes, place, width } => (false, bytes.len(), place, width),
             bits::Case::Write { lent, place, width, .. } => (true, lent, place, width),
+            bits::Case::ReadEight { .. } => continue,
         };
         assert!(length <= 256);
         let room = (length as u64 * 8).saturating_sub(place);
@@ -136,6 +138,31 @@ fn bits_written_are_read() {
     }
 }
 
+/// 56 bits are read at every bit of a byte, with eight bytes left and with seven,
+/// and the two readers of bits agree on them.
+#[test]
+fn eight_bytes_as_one_number() {
+    let mut seen = HashSet::new();
+    for case in bits::collect() {
+        let bits::Case::ReadEight { bytes, place } = case else { continue };
+        assert!(bytes.len() <= 256);
+        let left = (bytes.len() as u64).checked_sub(place / 8);
+        let high = bits::read(&bytes, place, 24).map(|high| u64::from(high) << 32);
+        let low = bits::read(&bytes, place.saturating_add(24), 32).map(u64::from);
+        let both = high.zip(low).map(|(high, low)| high | low);
+        let enough = left.is_some_and(|left| left >= 8);
+        assert_eq!(bits::read_eight(&bytes, place), both.filter(|_| enough));
+        seen.insert((place % 8, left));
+        if place >= 1 << 32 {
+            seen.insert((8, left));
+        }
+    }
+    for left in [0, 1, 7, 8, 9] {
+        assert!((0..8).all(|bit| seen.contains(&(bit, Some(left)))), "{left}");
+    }
+    assert!(seen.contains(&(8, None)));
+}
+
 /// The two readers of numbers agree where both apply.
 #[test]
 fn naturals_as_numbers() {
@@ -173,6 +200,20 @@ fn lines_of_bits() {
     assert_eq!(write(2, u64::MAX - 3, 32, 5), format!("{},0D14\n", u64::MAX));
     assert_eq!(write(8, 4, 56, 0xFF12_3456_789A_BCDE), "60,0123456789ABCDEE\n");
     assert_eq!(write(9, 7, 55, u64::MAX), "62,0DFFFFFFFFFFFFFE45\n");
+}
+
+/// Some lines of the format, by hand.
+#[test]
+fn lines_of_eight() {
+    let eight =
+        |bytes: &[u8], place| bits::Case::ReadEight { bytes: bytes.to_vec(), place }.answer();
+    let bytes = [0x12, 0x34, 0x56, 0x78, 0x9A, 0xBC, 0xDE, 0xF1];
+    assert_eq!(eight(&bytes, 0), format!("Y,{}\n", 0x12_3456_789A_BCDE_u64));
+    assert_eq!(eight(&bytes, 4), format!("Y,{}\n", 0x23_4567_89AB_CDEF_u64));
+    assert_eq!(eight(&bytes, 8), "N\n");
+    assert_eq!(eight(&bytes[..7], 0), "N\n");
+    assert_eq!(eight(&[], u64::MAX), "N\n");
+    assert_eq!(eight(&[0xFF; 8], 7), format!("Y,{}\n", (1_u64 << 56) - 1));
 }
 
 /// Some lines of the format, by hand.

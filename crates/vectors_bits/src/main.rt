@@ -1,7 +1,8 @@
-// Tries the crate bits on the cases of its standard input: numbers read and written at any bit, inside a buffer, across its end and
-// far past it. Writes a line for each case; model/README.md has the format.
+// Tries the crate bits on the cases of its standard input: numbers read, also 56 bits at once, and written at any bit, inside a buffer,
+// across its end and far past it. Writes a line for each case; model/README.md has the format.
 ghost use Prim.Native.Nat.{_≤_};
 use bits::Number;
+use bits::Wide;
 
 // A number read: its value, or that the buffer ends.
 fn read_number(bytes: &[u8], place: usize, width: usize)
@@ -28,6 +29,26 @@ fn read_case(s: &[u8], start: usize) -> usize {
         read_number(bytes, place, width);
     }
     vectors::past(at, 12)
+}
+
+// 56 bits read as one number: its value, or that fewer than eight bytes are left.
+fn read_eight(bytes: &[u8], place: usize) {
+    match bits::read_eight(bytes, place) {
+        Wide::Is(value) => {
+            vectors::write_yes(true);
+            vectors::write_comma();
+            vectors::write_natural(value);
+        }
+        Wide::Short => vectors::write_yes(false),
+    }
+    vectors::write_end();
+}
+
+// A case that reads 56 bits. Returns the place behind the case.
+fn eight_case(s: &[u8], start: usize) -> usize {
+    let at = vectors::past_slice(s, start);
+    read_eight(vectors::slice(s, start), vectors::long_number(s, at));
+    vectors::past(at, 8)
 }
 
 // A number written into a lent buffer: the place behind it, and the whole buffer.
@@ -58,10 +79,10 @@ fn write_case(s: &[u8], at: usize, space: &mut [u8]) -> usize {
 // One case, by its first number. Returns the place behind it.
 fn case(s: &[u8], at: usize, space: &mut [u8]) -> usize {
     let first = vectors::past(at, 4);
-    if vectors::number(s, at) == 0 {
-        read_case(s, first)
-    } else {
-        write_case(s, first, space)
+    match vectors::number(s, at) {
+        0 => read_case(s, first),
+        2 => eight_case(s, first),
+        _ => write_case(s, first, space),
     }
 }
 

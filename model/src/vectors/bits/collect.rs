@@ -1,6 +1,6 @@
 //! The cases of `vectors_bits`; here those of numbers of 0 to 32 bits.
 
-use super::{wide, Case};
+use super::{eight, wide, Case};
 use crate::rng::Rng;
 use std::ops::RangeInclusive;
 
@@ -44,10 +44,11 @@ pub fn collect() -> Vec<Case> {
     far(&mut rng, &mut cases);
     random(&mut rng, &mut cases);
     wide::collect(&mut cases);
+    eight::collect(&mut cases);
     cases
 }
 
-fn bytes(rng: &mut Rng, length: u64) -> Vec<u8> {
+pub fn bytes(rng: &mut Rng, length: u64) -> Vec<u8> {
     match rng.below(8) {
         0 => vec![0; length as usize],
         1 => vec![0xFF; length as usize],

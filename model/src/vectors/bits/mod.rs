@@ -1,6 +1,7 @@
 //! The cases of `vectors_bits`: numbers read and written at a bit of a buffer.
 
 mod collect;
+mod eight;
 mod wide;
 
 pub use collect::collect;
@@ -13,6 +14,7 @@ use crate::bits::BitReader;
 pub enum Case {
     Read { bytes: Vec<u8>, place: u64, width: usize },
     Write { lent: usize, place: u64, width: usize, value: u64 },
+    ReadEight { bytes: Vec<u8>, place: u64 },
 }
 
 impl Case {
@@ -32,22 +34,33 @@ impl Case {
                 stdin::number(out, *width);
                 stdin::long_number(out, *value);
             }
+            Case::ReadEight { bytes, place } => {
+                stdin::number(out, 2);
+                stdin::slice(out, bytes);
+                stdin::long_number(out, *place);
+            }
         }
     }
 
     /// The line that the program writes.
     pub fn answer(&self) -> String {
         match self {
-            Case::Read { bytes, place, width } => match read(bytes, *place, *width) {
-                Some(value) => format!("Y,{value}\n"),
-                None => "N\n".to_owned(),
-            },
+            Case::Read { bytes, place, width } => found(read(bytes, *place, *width).map(u64::from)),
             Case::Write { lent, place, width, value } => {
                 let mut out = pattern(*lent);
                 let place = put(&mut out, *place, *width, *value);
                 format!("{place},{}\n", shown(&out))
             }
+            Case::ReadEight { bytes, place } => found(read_eight(bytes, *place)),
         }
+    }
+}
+
+/// The line of a number that was read, or of none.
+fn found(value: Option<u64>) -> String {
+    match value {
+        Some(value) => format!("Y,{value}\n"),
+        None => "N\n".to_owned(),
     }
 }
 
@@ -62,6 +75,20 @@ pub fn read(bytes: &[u8], place: u64, width: usize) -> Option<u32> {
         reader.take(1)?;
     }
     reader.take(width as u32)
+}
+
+/// The number of 56 bits from the bit `place` on, bit by bit; None if fewer than
+/// eight bytes are left from the byte of that bit on, though the bits may be there.
+pub fn read_eight(bytes: &[u8], place: u64) -> Option<u64> {
+    if (bytes.len() as u64) < place / 8 + 8 {
+        return None;
+    }
+    let mut value = 0;
+    for at in place..place + 56 {
+        let byte = bytes[(at / 8) as usize];
+        value = value * 2 + u64::from(byte >> (7 - at % 8) & 1);
+    }
+    Some(value)
 }
 
 /// Stores the lowest `width` bits of `value`, the highest first, from the bit

@@ -1,7 +1,7 @@
 -- The fields of an instruction as the code reads them: the options of inputs, and the fields that a code calls for.
 use Prim.Native.Nat.{ℕ, zero, suc, _+_, _≤_}
 use mathlib.Core.Path.{_≡_, refl, sym, ap, _∙_}
-use mathlib.Core.List.{List, []}
+use mathlib.Core.List.{List}
 use native.Mathlib.Omega.{arith}
 use lib.Dec.{leb}
 use Rattle.causes.specs.declared.Cause.{Cause}
@@ -9,7 +9,7 @@ use Rattle.causes.specs.declared.Cause.the-variants.{Unused}
 use Rattle.text.specs.Text.{Text}
 use Rattle.transcript.specs.Statement.{print, printex}
 use Rattle.phrases.specs.Phrases.{Phrases}
-use Rattle.plate.specs.Reading.{Place, Read, got, stopped, number, judged, return, many}
+use Rattle.plate.specs.Reading.{Place, Read, got, stopped, number, judged, many}
 use Rattle.plate.specs.Program.{statement}
 use Rattle.plate.specs.Plate.{text, options, fieldsBy}
 use Rattle.fields.specs.Places.{endWith, valuesOf}

@@ -4,14 +4,13 @@ use native.Mathlib.Omega.{arith}
 use native.Mathlib.Numerals.{add-one}
 use mathlib.Core.Path.{_≡_, refl}
 use mathlib.Core.List.{List, [], _∷_, _++_}
-use lib.ListN.{length, take, drop, getD, drop-of-length-le, length-take, length-map}
+use lib.ListN.{length, take, drop, getD, drop-of-length-le}
 use lib.Seq.{drop-cons}
 use Rattle.bits.specs.Bits.{bitsOf}
 use Rattle.text.specs.Parts.{untilByte, partsFrom, comma}
 use Rattle.text.proofs.Places.{parts-next, parts-none}
 use Rattle.text.specs.Text.{Text}
 use Rattle.phrases.specs.Phrases.{Phrases, width}
-use Rattle.phrases.specs.Lookup.{ownTexts}
 use Rattle.phrases.proofs.Width.{width-least}
 use Rattle.plate.specs.Writing.{ETX, spelledBits, ownBit, textBits, textsBits}
 
@@ -56,7 +55,3 @@ module _ (b : ℕ) where
 
 pub width-fits : (n : ℕ) → n ≤ 65536 → width n ≤ 56
 width-fits n h = omega (arith, width-least n 16 h)
-
-pub own-counted : (k : ℕ) (own : List ℕ) → length (ownTexts k own) ≤ k
-unfolding ownTexts
-own-counted k own = simp (length-map, length-take) (omega arith)

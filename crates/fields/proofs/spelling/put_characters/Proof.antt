@@ -6,7 +6,7 @@ use native.Mathlib.Omega.{arith}
 use lib.ListN.{length, drop}
 use borrow.Author.Needs.{needs}
 use Rattle.output.specs.Pour.{poured}
-use Rattle.output.proofs.Pour.{none, then, kept}
+use Rattle.output.proofs.Pour.{none, then}
 use Rattle.output.proofs.Poured.{ended}
 use Rattle.bits.specs.Bits.{bytesBits}
 use Rattle.fields.specs.Places.{charactersIn}

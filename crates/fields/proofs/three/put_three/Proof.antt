@@ -1,7 +1,7 @@
 -- `put_three` meets its contract: 21 bits, taken apart and stored; at the plate's end one by one.
 use mathlib.Core.Path.{sym, _∙_, ap}
 use native.Mathlib.Omega.{arith}
-use lib.ListN.{length, length-set}
+use lib.ListN.{length-set}
 use borrow.Author.Needs.{needs}
 use Rattle.output.specs.Pour.{poured}
 use Rattle.fields.proofs.Threes.{parts, stored-three, three-characters}

@@ -11,8 +11,6 @@ use Rattle.plate_texts.proofs.Ended.{ended-some, ended-stopped}
 use Rattle.instructions.proofs.FieldsRead.{options-got, options-stopped, options-refused}
 use Rattle.instructions.proofs.passing.pass_inputs.Statement.{statement}
 use Rattle.instructions.proofs.passing.pass_inputs.Tie as tie
-use Rattle.instructions.proofs.passing.pass_inputs.Reads as reads
-use Rattle.instructions.proofs.passing.pass_inputs.Lts as lts
 use Rattle.fields.proofs.read_field.Reads as read-field-reads
 use Rattle.fields.proofs.read_plain.Reads as read-plain-reads
 use Rattle.plate_texts.proofs.pass_text.Reads as pass-text-reads

@@ -10,8 +10,6 @@ use Rattle.fields.proofs.Answers.{field-got, field-refused}
 use Rattle.instructions.proofs.FieldsRead.{fields-code, fields-shown}
 use Rattle.instructions.proofs.passing.pass_instruction.Statement.{statement}
 use Rattle.instructions.proofs.passing.pass_instruction.Tie as tie
-use Rattle.instructions.proofs.passing.pass_instruction.Reads as reads
-use Rattle.instructions.proofs.passing.pass_instruction.Lts as lts
 use Rattle.fields.proofs.read_field.Reads as read-field-reads
 use Rattle.instructions.proofs.passing.pass_goto.Reads as pass-goto-reads
 use Rattle.instructions.proofs.passing.pass_if.Reads as pass-if-reads

@@ -1,6 +1,6 @@
 -- `accepted_text` meets its contract: the code, then characters or a phrase.
 use Prim.Native.Nat.{_+_}
-use mathlib.Core.Path.{_≡_, refl, ap, sym, _∙_}
+use mathlib.Core.Path.{_≡_, _∙_}
 use native.Mathlib.Omega.{arith}
 use borrow.Author.Needs.{needs}
 use Rattle.phrases.specs.Lookup.{phrasesIn}
@@ -16,8 +16,6 @@ use Rattle.plate_texts.proofs.TextsRead.{text-code, some-phrase, by-spe
 use Rattle.plate_texts.proofs.Known.{known-same, known-then}
 use Rattle.plate_texts.proofs.accepted.accepted_text.Statement.{statement}
 use Rattle.plate_texts.proofs.accepted.accepted_text.Tie as tie
-use Rattle.plate_texts.proofs.accepted.accepted_text.Reads as reads
-use Rattle.plate_texts.proofs.accepted.accepted_text.Lts as lts
 use Rattle.fields.proofs.Field.refusal.Reads as refusal-reads
 use Rattle.phrases.proofs.count_of.Reads as count-of-reads
 use Rattle.plate_texts.proofs.phrase_place.accepted_phrase.Reads as accepted-phrase-reads

@@ -1,6 +1,6 @@
 -- `text_end` meets its contract: the text is no refusal, and ends behind its characters or its place.
 use Prim.Native.Nat.{_+_}
-use mathlib.Core.Path.{_≡_, refl, ap, sym, _∙_}
+use mathlib.Core.Path.{_≡_, ap, _∙_}
 use native.Mathlib.Omega.{arith}
 use borrow.Author.Needs.{needs}
 use Rattle.phrases.specs.Lookup.{phrasesIn}
@@ -15,8 +15,6 @@ use Rattle.plate_texts.proofs.TextsRead.{text-code, some-phrase, by-spe
 use Rattle.plate_texts.proofs.Known.{known-same, known-then}
 use Rattle.plate_texts.proofs.accepted.text_end.Statement.{statement}
 use Rattle.plate_texts.proofs.accepted.text_end.Tie as tie
-use Rattle.plate_texts.proofs.accepted.text_end.Reads as reads
-use Rattle.plate_texts.proofs.accepted.text_end.Lts as lts
 use Rattle.phrases.proofs.count_of.Reads as count-of-reads
 use Rattle.plate_texts.proofs.phrase_place.phrase_end.Reads as phrase-end-reads
 use Rattle.plate_texts.proofs.spelled_text.accepted_spelled.Reads as accepted-spelled-reads

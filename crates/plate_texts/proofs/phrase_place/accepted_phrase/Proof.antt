@@ -1,16 +1,14 @@
 -- `accepted_phrase` meets its contract: the source, and the place there, which is known to be good.
 use native.Mathlib.Omega.{arith}
-use mathlib.Core.Path.{_≡_, refl, sym, ap, _∙_}
+use mathlib.Core.Path.{refl, _∙_}
 use borrow.Author.Needs.{needs}
 use Rattle.fields.specs.Places.{refusalOf}
-use Rattle.fields.proofs.Answers.{answered, refused, field-got, field-refused}
+use Rattle.fields.proofs.Answers.{answered, refused}
 use Rattle.plate_texts.specs.Sources.{sourceRead, sourceRefusal}
 use Rattle.plate_texts.specs.TextsAt.{textsRead}
-use Rattle.plate_texts.proofs.PhraseRead.{phraseOf, width-small, source-of, source-stopped, source-good, phrase-read, place-known, phrase-ended}
+use Rattle.plate_texts.proofs.PhraseRead.{phraseOf, width-small, source-of, source-stopped, source-good, phrase-read, place-known}
 use Rattle.plate_texts.proofs.phrase_place.accepted_phrase.Statement.{statement}
 use Rattle.plate_texts.proofs.phrase_place.accepted_phrase.Tie as tie
-use Rattle.plate_texts.proofs.phrase_place.accepted_phrase.Reads as reads
-use Rattle.plate_texts.proofs.phrase_place.accepted_phrase.Lts as lts
 use Rattle.fields.proofs.Field.refusal.Reads as Field-refusal-reads
 use Rattle.fields.proofs.read_plain.Reads as read-plain-reads
 use Rattle.phrases.proofs.count_of.Reads as count-of-reads

@@ -1,15 +1,12 @@
 -- `pass_phrase` meets its contract: the source, and the place there.
-use native.Mathlib.Omega.{arith}
-use mathlib.Core.Path.{_≡_, refl, sym, ap, _∙_}
+use mathlib.Core.Path.{refl, sym, ap, _∙_}
 use borrow.Author.Needs.{needs}
 use Rattle.fields.specs.Places.{endWith, fieldRead}
-use Rattle.fields.proofs.Answers.{answered, refused, field-got, field-refused}
+use Rattle.fields.proofs.Answers.{answered, refused}
 use Rattle.plate_texts.specs.Sources.{sourceRead, sourceRefusal}
-use Rattle.plate_texts.proofs.PhraseRead.{phraseOf, width-small, source-of, source-stopped, source-good, phrase-read, place-known, phrase-ended}
+use Rattle.plate_texts.proofs.PhraseRead.{source-of, source-stopped, source-good, phrase-read, phrase-ended}
 use Rattle.plate_texts.proofs.phrase_place.pass_phrase.Statement.{statement}
 use Rattle.plate_texts.proofs.phrase_place.pass_phrase.Tie as tie
-use Rattle.plate_texts.proofs.phrase_place.pass_phrase.Reads as reads
-use Rattle.plate_texts.proofs.phrase_place.pass_phrase.Lts as lts
 use Rattle.phrases.proofs.count_of.Reads as count-of-reads
 use Rattle.plate_texts.proofs.phrase_place.Source.refusal.Reads as refusal-reads
 use Rattle.plate_texts.proofs.phrase_place.read_place.Reads as read-place-reads

@@ -1,16 +1,14 @@
 -- `phrase_end` meets its contract: the phrase is no refusal, and ends behind its place.
 use native.Mathlib.Omega.{arith}
-use mathlib.Core.Path.{_≡_, refl, sym, ap, _∙_}
+use mathlib.Core.Path.{ap, _∙_}
 use borrow.Author.Needs.{needs}
 use Rattle.fields.specs.Places.{endWith, refusalOf}
-use Rattle.fields.proofs.Answers.{answered, refused, field-got, field-refused}
+use Rattle.fields.proofs.Answers.{answered}
 use Rattle.plate_texts.specs.Sources.{sourceRead, sourceRefusal}
 use Rattle.plate_texts.specs.TextsAt.{textsRead}
-use Rattle.plate_texts.proofs.PhraseRead.{phraseOf, width-small, source-of, source-stopped, source-good, phrase-read, place-known, phrase-ended}
+use Rattle.plate_texts.proofs.PhraseRead.{phraseOf, width-small, source-of, source-stopped, source-good, phrase-read, place-known}
 use Rattle.plate_texts.proofs.phrase_place.phrase_end.Statement.{statement}
 use Rattle.plate_texts.proofs.phrase_place.phrase_end.Tie as tie
-use Rattle.plate_texts.proofs.phrase_place.phrase_end.Reads as reads
-use Rattle.plate_texts.proofs.phrase_place.phrase_end.Lts as lts
 use Rattle.fields.proofs.read_plain.Reads as read-plain-reads
 use Rattle.phrases.proofs.count_of.Reads as count-of-reads
 use Rattle.phrases.proofs.width_of.Reads as width-of-reads

@@ -11,8 +11,6 @@ use Rattle.fields.proofs.Copied.{length-characters, copied}
 use Rattle.plate_texts.proofs.TextsRead.{none-there}
 use Rattle.plate_texts.proofs.spelled_text.is_good.Statement.{statement}
 use Rattle.plate_texts.proofs.spelled_text.is_good.Tie as tie
-use Rattle.plate_texts.proofs.spelled_text.is_good.Reads as reads
-use Rattle.plate_texts.proofs.spelled_text.is_good.Lts as lts
 use Rattle.fields.proofs.put_characters.Reads as put-characters-reads
 use Rattle.phrases.proofs.count_of.Reads as count-of-reads
 use Rattle.plate_texts.proofs.spelled_text.is_new.Reads as is-new-reads

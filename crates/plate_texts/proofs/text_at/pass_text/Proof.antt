@@ -1,6 +1,6 @@
 -- `pass_text` meets its contract: the code, then characters or a phrase.
 use Prim.Native.Nat.{_+_}
-use mathlib.Core.Path.{_≡_, refl, ap, sym, _∙_}
+use mathlib.Core.Path.{_≡_, ap, _∙_}
 use native.Mathlib.Omega.{arith}
 use borrow.Author.Needs.{needs}
 use Rattle.phrases.specs.Lookup.{phrasesIn}
@@ -14,8 +14,6 @@ use Rattle.plate_texts.proofs.PhraseRead.{book-count}
 use Rattle.plate_texts.proofs.TextsRead.{text-code, some-phrase, by-spelled, by-phrase}
 use Rattle.plate_texts.proofs.text_at.pass_text.Statement.{statement}
 use Rattle.plate_texts.proofs.text_at.pass_text.Tie as tie
-use Rattle.plate_texts.proofs.text_at.pass_text.Reads as reads
-use Rattle.plate_texts.proofs.text_at.pass_text.Lts as lts
 use Rattle.phrases.proofs.count_of.Reads as count-of-reads
 use Rattle.plate_texts.proofs.phrase_place.pass_phrase.Reads as pass-phrase-reads
 use Rattle.plate_texts.proofs.spelled_text.read_spelled.Reads as read-spelled-reads

@@ -1,5 +1,5 @@
 -- `put_texts` meets its contract: the fields from the place a on are left to write.
-use Prim.Native.Nat.{_+_, _-_, _≤_}
+use Prim.Native.Nat.{_+_, _-_}
 use mathlib.Core.Path.{ap}
 use lib.ListN.{length, drop}
 use borrow.Author.Needs.{needs}

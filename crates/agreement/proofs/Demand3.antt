@@ -1,26 +1,24 @@
 -- Demand 3, whole: for every book, guide and plate that the translation makes of it, every list of answers, every buffer of any length
 -- and content, and every scratch of at least 512 numbers, the run of the plate is the walk of the guide.
-use Prim.Native.Nat.{ℕ, _≤_, _<_}
-use mathlib.Core.Path.{_≡_, refl, sym, ap, subst, _∙_}
-use mathlib.Core.List.{List, _++_}
-use lib.ListN.{length, drop}
+use Prim.Native.Nat.{ℕ, _≤_}
+use mathlib.Core.Path.{_≡_, sym, subst, _∙_}
+use mathlib.Core.List.{List}
+use lib.ListN.{length}
 use lib.IntN.{ℤ}
 use borrow.Author.Tests.{le-leb, lt-leb}
-use Rattle.causes.specs.Answers.{made, Answer, Output, lent, refusal}
+use Rattle.causes.specs.Answers.{made, lent}
 use Rattle.causes.proofs.Results.{made-from}
 use Rattle.text.specs.Text.{Text}
 use Rattle.phrases.specs.Book.{bookPhrases}
 use Rattle.transcript.specs.State.{start}
 use Rattle.transcript.specs.Perform.{stateOf, report}
 use Rattle.guide.specs.Guide.{Guide, guideOf}
-use Rattle.plate.specs.Program.{Program}
 use Rattle.plate.specs.Writing.{plateBytes, plateSized}
 use Rattle.plate.specs.Plate.{plateProgram}
 use Rattle.plate.proofs.RoundTrip.{written-read}
 use Rattle.plate.proofs.Sized.{sized-made}
 use Rattle.walking.specs.Call.{walked, walkCall}
 use Rattle.walking.proofs.Waits.{walk-waits}
-use Rattle.running.specs.Run.{run}
 use Rattle.running.specs.Call.{ran, runCall}
 use Rattle.running.proofs.Steps.{run-steps}
 use Rattle.translate.specs.Translation.{translateBlock, translateGuide}

@@ -10,7 +10,7 @@ use Rattle.causes.specs.Causes.{outcomeNumber}
 use Rattle.causes.specs.declared.Outcome.the-variants.{Waiting}
 use Rattle.text.specs.Text.{Text}
 use Rattle.phrases.specs.Book.{bookPhrases}
-use Rattle.transcript.specs.State.{State, start, transcriptBytes}
+use Rattle.transcript.specs.State.{start, transcriptBytes}
 use Rattle.transcript.specs.Perform.{Ending, outcomeOf, stateOf}
 use Rattle.transcript.specs.Waiting.{Unanswered}
 use Rattle.guide.specs.Guide.{Guide, guideOf}

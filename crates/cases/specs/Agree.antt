@@ -1,7 +1,7 @@
 -- A test that a row computes to what was worked by hand.
 use Prim.Native.Nat.{ℕ}
 use mathlib.Core.List.{List, [], _∷_}
-use mathlib.Core.Bool.{Bool, true, false, _&&_}
+use mathlib.Core.Bool.{Bool, true, _&&_}
 use lib.Dec.{eqb}
 use Rattle.causes.specs.Answers.{Answer, wrote, ended, refusal}
 use Rattle.text.specs.Parts.{same}

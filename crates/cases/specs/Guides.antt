@@ -1,7 +1,7 @@
 -- The refusals of translate and walk, each with its place; each limit of a guide and one past it.
 use Prim.Native.Nat.{ℕ, zero, suc}
 use mathlib.Core.List.{List, [], _∷_, _++_}
-use lib.ListN.{length, replicate}
+use lib.ListN.{replicate}
 use Rattle.text.specs.Quoted.{bytes}
 use Rattle.causes.specs.Answers.{wrote}
 use Rattle.translate.specs.Call.{translateCall}

@@ -1,7 +1,7 @@
 -- The refusals of write_plate, each with its place; each limit of a listing and one past it; listing and plate both ways.
 use Prim.Native.Nat.{ℕ}
 use mathlib.Core.List.{List, [], _∷_, _++_}
-use lib.ListN.{length, replicate}
+use lib.ListN.{replicate}
 use Rattle.text.specs.Quoted.{bytes}
 use Rattle.causes.specs.Answers.{wrote}
 use Rattle.phrases.specs.Phrases.{width}

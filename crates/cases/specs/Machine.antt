@@ -1,9 +1,8 @@
 -- What walk and run do: each OP, each transcript line, each outcome, options, registers, steps.
 use Prim.Native.Nat.{ℕ}
 use mathlib.Core.List.{List, [], _∷_, _++_}
-use lib.ListN.{length}
 use lib.IntN.{ℤ, pos, negsuc}
-use Rattle.causes.specs.Answers.{wrote, ended, refusal}
+use Rattle.causes.specs.Answers.{ended, refusal}
 use Rattle.text.specs.Quoted.{bytes}
 use Rattle.walking.specs.Call.{walkCall}
 use Rattle.running.specs.Call.{runCall}

@@ -2,15 +2,15 @@
 use Prim.Native.Nat.{ℕ}
 use mathlib.Core.List.{List, [], _∷_, _++_}
 use lib.ListN.{length}
-use lib.IntN.{ℤ, pos, negsuc}
-use Rattle.causes.specs.Answers.{Result, made, refused, wrote}
+use lib.IntN.{pos, negsuc}
+use Rattle.causes.specs.Answers.{Result, made, refused}
 use Rattle.text.specs.Quoted.{bytes}
 use Rattle.plate.specs.Program.{Program}
 use Rattle.plate.specs.Writing.{programBits, constantBits}
 use Rattle.listing.specs.Listing.{listingProgram}
 use Rattle.listing.specs.Calls.{readPlateCall, writePlateCall}
 use Rattle.translate.specs.Call.{translateCall, translation}
-use Rattle.cases.specs.Row.{Row, _counts_, _gives_, hex, refuses, writes, meets, bytesMade}
+use Rattle.cases.specs.Row.{Row, _counts_, hex, refuses, writes, meets, bytesMade}
 
 -- (a)
 abbrev pub guideA : List ℕ

@@ -1,5 +1,4 @@
 -- The refusals of read_plate and run, each at its exact bit; plates that are accepted. A plate is given by its bits, field by field.
-use Prim.Native.Nat.{ℕ}
 use mathlib.Core.List.{List, [], _∷_, _++_}
 use lib.ListN.{replicate}
 use Rattle.text.specs.Quoted.{bytes}
@@ -7,7 +6,7 @@ use Rattle.causes.specs.Answers.{wrote, ended, refusal}
 use Rattle.bits.specs.Bits.{pack}
 use Rattle.running.specs.Call.{runCall}
 use Rattle.listing.specs.Calls.{readPlateCall}
-use Rattle.cases.specs.Row.{Row, _gives_, hex, bitsIn, plate, times, refuses, writes, fits, plateRefused, untouched}
+use Rattle.cases.specs.Row.{Row, _gives_, hex, bitsIn, plate, times, writes, fits, plateRefused, untouched}
 use Rattle.cases.specs.Guides.{printed}
 
 abbrev pub plates : List Row

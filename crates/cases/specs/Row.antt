@@ -1,6 +1,6 @@
 -- A row of the table of cases: what a call gives by the definitions, and as worked by hand. With short names for texts, plates and buffers.
 use Prim.Native.Nat.{ℕ, zero, suc, _+_, _*_, _-_}
-use Prim.Native.Char.{Char, code}
+use Prim.Native.Char.{code}
 use Prim.Native.String.{String, [] as nothing, _∷_ as _then_}
 use mathlib.Core.List.{List, [], _∷_, _++_}
 use mathlib.Core.Bool.{Bool, true, false, cond}

@@ -7,7 +7,7 @@ use mathlib.Core.Bool.{Bool, true, false, cond}
 use lib.ListN.{length, take, drop, length-append}
 use lib.Seq.{take-at}
 use lib.Dec.{leb}
-use borrow.Author.Tests.{leb-true, le-leb}
+use borrow.Author.Tests.{le-leb}
 use Rattle.causes.specs.declared.Cause.the-variants.{TooShort}
 use Rattle.causes.specs.Answers.{Result, made, refused, _>>=_, Answer, wrote, refusal, output, refusing, lent}
 

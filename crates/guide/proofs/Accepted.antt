@@ -18,7 +18,7 @@ use Rattle.lines.proofs.Valid.{ValidLine, LinesOk}
 use Rattle.lines.proofs.Passes.{Passes}
 use Rattle.lines.proofs.Kept.{else-allowed}
 use Rattle.lines.proofs.Accepts.{accepts}
-use Rattle.lines.specs.declared.Checked.the-variants.{Fine, Refused}
+use Rattle.lines.specs.declared.Checked.the-variants.{Fine}
 use Rattle.lines.specs.Answers.{seenIn, checkedAnswer}
 use Rattle.lines.specs.Clean.{Clean}
 use Rattle.lines.proofs.CleanTexts.{seen-clean}

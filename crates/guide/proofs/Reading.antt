@@ -13,7 +13,6 @@ use Rattle.lines.specs.declared.Form.the-variants.{Guide as aGuide}
 use Rattle.lines.specs.declared.Head.{Head}
 use Rattle.lines.specs.declared.Head.the-variants.{Faulty}
 use Rattle.lines.specs.Line.{Line, phrase, says, ifLine, elseLine, fiLine, gotoLine, ifSkipLine, faulty, lineOf, unended, linesIn}
-use Rattle.lines.specs.Check.{linesOf}
 use Rattle.lines.specs.Answers.{headOf}
 use Rattle.lines.specs.declared.words.Kind.{Kind}
 use Rattle.lines.specs.Words.{kindOf}

@@ -1,5 +1,4 @@
 -- Document 01, "Walk": the blocks of a guide.
-use Prim.Native.Nat.{ℕ}
 use mathlib.Core.List.{List, [], _∷_}
 use Rattle.transcript.specs.Statement.{Statement}
 use Rattle.transcript.specs.declared.Test.{Test}

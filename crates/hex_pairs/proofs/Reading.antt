@@ -10,7 +10,7 @@ use lib.Seq.{drop-cons}
 use borrow.Author.Tests.{eq-eqb, ne-eqb, lt-ltb, le-ltb}
 use Rattle.output.specs.Pour.{poured}
 use Rattle.output.proofs.Pour.{none, then}
-use Rattle.text.specs.Parts.{split, partsFrom, untilByte, LF}
+use Rattle.text.specs.Parts.{partsFrom, untilByte, LF}
 use Rattle.text.proofs.Places.{parts-whole, parts-next, parts-none}
 use Rattle.hex_pairs.specs.Pairs.{digitValue, onPair, pairsIn, unlabelled, onLine, pairsFrom, pairsOf}
 

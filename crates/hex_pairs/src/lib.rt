@@ -2,8 +2,6 @@
 // `read_pairs` takes any text and any buffer; its contract says the whole answer and the whole buffer.
 use printed::front;
 ghost use mathlib.Core.Path.{_≡_};
-ghost use Prim.Native.Nat.{_≤_};
-ghost use lib.ListN.{length};
 ghost use Rattle.output.specs.Pour.{poured};
 ghost use Rattle.hex_pairs.specs.Pairs.{digitValue, unlabelled, pairsIn, pairsOf};
 

@@ -1,5 +1,5 @@
 -- "At most 327,680 bytes, which no accepted plate exceeds": the text of a program that meets the rules is no longer.
-use Prim.Native.Nat.{_+_, _*_, _≤_}
+use Prim.Native.Nat.{_*_, _≤_}
 use mathlib.Core.Path.{_≡_, refl}
 use mathlib.Core.List.{List, [], _∷_, map}
 use native.Mathlib.Omega.{arith}

@@ -1,7 +1,7 @@
 -- Document 01, "Listing": "The plate's instructions as lines".
 use Prim.Native.Nat.{ℕ, suc}
 use mathlib.Core.List.{List, [], _∷_, _++_, map}
-use mathlib.Core.Bool.{Bool, true, false}
+use mathlib.Core.Bool.{true, false}
 use mathlib.Core.Option.{Option, none, some}
 use lib.ListN.{length}
 use lib.Dec.{leb}
@@ -12,7 +12,6 @@ use Rattle.text.specs.Parts.{join, comma, LF}
 use Rattle.text.specs.Text.{Text}
 use Rattle.decimals.specs.Number.{decimal, decimalℕ}
 use Rattle.transcript.specs.Statement.{Statement, input, inputs, print, printex}
-use Rattle.transcript.specs.declared.Test.{Test}
 use Rattle.transcript.specs.declared.Op.{Op}
 use Rattle.transcript.specs.declared.Op.the-variants.{Eq, Ne, Lt, Le, Gt, Ge}
 use Rattle.lines.specs.declared.Form.the-variants.{Listing}

@@ -1,5 +1,5 @@
 -- Programs that meet the rules: exactly those that an accepted listing or plate holds.
-use Prim.Native.Nat.{ℕ, _<_, _≤_}
+use Prim.Native.Nat.{ℕ, _≤_}
 use mathlib.Core.List.{List, [], _∷_}
 use lib.ListN.{length}
 use Rattle.text.specs.Text.{Text}

@@ -10,13 +10,13 @@ use Rattle.causes.specs.declared.Cause.the-variants.{PlateTooLong, PlateEnds, U
 use Rattle.bits.specs.Bits.{bytesBits}
 use Rattle.text.specs.Text.{Text, textByte, textSize}
 use Rattle.phrases.specs.Phrases.{Phrases, isNew, width}
-use Rattle.transcript.specs.Statement.{Statement, input, inputs, print, printex}
+use Rattle.transcript.specs.Statement.{input, inputs, print, printex}
 use Rattle.transcript.specs.declared.Test.{Test}
 use Rattle.transcript.specs.declared.Op.{Op}
 use Rattle.transcript.specs.declared.Op.the-variants.{Eq, Ne, Lt, Le, Gt, Ge}
 use Rattle.plate.specs.Program.{Instruction, statement, goto, ifSkip, Program}
 use Rattle.plate.specs.Writing.{ETX, isShort}
-use Rattle.plate.specs.Reading.{Place, Read, got, stopped, Reader, number, judge, judged, return, _>>=_, many}
+use Rattle.plate.specs.Reading.{Read, got, stopped, Reader, number, judge, judged, return, _>>=_, many}
 
 -- ---- texts
 

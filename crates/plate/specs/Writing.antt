@@ -1,7 +1,7 @@
 -- Document 01, "Plate bits": the bits and bytes of a program, with a book.
-use Prim.Native.Nat.{ℕ, zero, suc, _+_, _-_, _^_}
+use Prim.Native.Nat.{ℕ, _-_, _^_}
 use mathlib.Core.List.{List, [], _∷_, _++_}
-use mathlib.Core.Bool.{Bool, true, false, cond, _&&_}
+use mathlib.Core.Bool.{Bool, cond, _&&_}
 use lib.ListN.{length}
 use lib.Dec.{leb}
 use lib.IntN.{ℤ, pos, negsuc}
@@ -12,7 +12,6 @@ use Rattle.bits.specs.Bits.{bitsOf, pack}
 use Rattle.text.specs.Text.{Text}
 use Rattle.phrases.specs.Phrases.{Phrases, Where, inBook, inOwn, nowhere, find, width}
 use Rattle.transcript.specs.Statement.{Statement, input, inputs, print, printex}
-use Rattle.transcript.specs.declared.Test.{Test}
 use Rattle.transcript.specs.declared.Op.{Op}
 use Rattle.transcript.specs.declared.Op.the-variants.{Eq, Ne, Lt, Le, Gt, Ge}
 use Rattle.plate.specs.Program.{Instruction, statement, goto, ifSkip, Program}

@@ -3,7 +3,7 @@ use Prim.Native.Nat.{ℕ, _≤_}
 use mathlib.Core.Path.{_≡_, sym}
 use mathlib.Core.List.{List}
 use lib.ListN.{length, take}
-use Rattle.causes.specs.Answers.{Answer, refusing, wrote, writtenAnswer}
+use Rattle.causes.specs.Answers.{refusing, wrote, writtenAnswer}
 use Rattle.causes.specs.declared.Refusal.{Refusal}
 use Rattle.causes.specs.declared.Written.{Written}
 use Rattle.causes.specs.declared.Written.the-variants.{Done, Refused}

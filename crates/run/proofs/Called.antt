@@ -2,7 +2,6 @@
 use Prim.Native.Nat.{ℕ, _≤_, _<_}
 use mathlib.Core.Path.{_≡_, sym, ap, _∙_}
 use mathlib.Core.List.{List}
-use lib.ListN.{length}
 use lib.IntN.{ℤ}
 use borrow.Author.Tests.{le-leb, lt-leb}
 use Rattle.causes.specs.Answers.{made, Answer, refusing, lent}
@@ -12,7 +11,6 @@ use Rattle.phrases.specs.declared.Book.the-variants.{Bad}
 use Rattle.phrases.specs.Book.{bookPhrases}
 use Rattle.phrases.specs.Lookup.{bookTexts, bookAnswer}
 use Rattle.phrases.proofs.Answers.{book-is}
-use Rattle.phrases.proofs.BookValid.{book-ok}
 use Rattle.transcript.specs.State.{start}
 use Rattle.transcript.specs.Perform.{report}
 use Rattle.plate.specs.Plate.{plateProgram}

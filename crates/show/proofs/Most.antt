@@ -1,8 +1,8 @@
 -- What is printed has at most 333,593 bytes: a listing of 327,680, and `plate,` with the 2,953 pairs of the longest plate and LF.
-use Prim.Native.Nat.{ℕ, _+_, _*_, _≤_}
+use Prim.Native.Nat.{ℕ, _+_, _≤_}
 use native.Mathlib.Omega.{arith}
 use mathlib.Core.Path.{_≡_, refl}
-use mathlib.Core.List.{List, [], _∷_, _++_}
+use mathlib.Core.List.{List, [], _∷_}
 use lib.ListN.{length, length-append, length-take}
 use Rattle.output.specs.Pour.{poured}
 use Rattle.output.proofs.Pour.{kept}
@@ -27,9 +27,6 @@ use Rattle.causes.specs.declared.Cause.the-variants.{
   Spelling,
   Filling,
 }
-use Rattle.text.specs.Quoted.{bytes}
-use Rattle.text.specs.Parts.{comma, LF}
-use Rattle.decimals.specs.Number.{decimalℕ}
 use Rattle.decimals.proofs.Decimals.{decimalℕ-short}
 use Rattle.translate.specs.Call.{translation}
 use Rattle.printed.specs.Pairs.{pairs}

@@ -11,7 +11,6 @@ use borrow.Author.Tests.{leb-true}
 use Rattle.causes.specs.Answers.{Result, made, refused, _>>=_}
 use Rattle.causes.specs.declared.Cause.{Cause}
 use Rattle.causes.specs.declared.Cause.the-variants.{TooLong}
-use Rattle.causes.proofs.Results.{never}
 use Rattle.text.specs.Text.{Text}
 use Rattle.lines.specs.declared.Form.the-variants.{Guide as aGuide}
 use Rattle.lines.specs.Line.{

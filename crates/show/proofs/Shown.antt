@@ -1,24 +1,21 @@
 -- What the calls translate and read_plate answer with an empty book and buffers that are always long enough, and what is then printed.
-use Prim.Native.Nat.{ℕ, _≤_, _<_}
+use Prim.Native.Nat.{ℕ, _≤_}
 use native.Mathlib.Omega.{arith}
 use mathlib.Core.Path.{_≡_, refl, sym, ap, _∙_}
-use mathlib.Core.List.{List, [], _∷_, _++_}
+use mathlib.Core.List.{List, [], _++_}
 use mathlib.Core.Bool.{Bool, true, false, cond}
-use lib.ListN.{length, take, drop, length-append}
+use lib.ListN.{length, take, drop}
 use lib.Dec.{leb}
-use lib.Seq.{take-at}
-use borrow.Author.Tests.{leb-true, le-leb}
-use Rattle.causes.specs.Answers.{Result, made, refused, _>>=_, Answer, wrote, refusal, refusing, writtenAnswer}
+use Rattle.causes.specs.Answers.{Result, made, refused, _>>=_, Answer, wrote, refusing, writtenAnswer}
 use Rattle.causes.specs.Causes.{number}
 use Rattle.causes.specs.declared.Cause.{Cause}
-use Rattle.causes.specs.declared.Cause.the-variants.{TooShort, PlateTooLong}
+use Rattle.causes.specs.declared.Cause.the-variants.{PlateTooLong}
 use Rattle.causes.specs.declared.Refusal.{Refusal}
 use Rattle.causes.specs.declared.Written.{Written}
 use Rattle.causes.specs.declared.Written.the-variants.{Done, Refused}
 use Rattle.causes.proofs.Results.{made-from}
 use Rattle.causes.proofs.Lent.{written, refusal-no-length, front, written-wrote, written-fits}
-use Rattle.text.specs.Parts.{split, LF}
-use Rattle.text.specs.Text.{Text}
+use Rattle.text.specs.Parts.{split}
 use Rattle.phrases.specs.Book.{phrasesFrom, bookPhrases}
 use Rattle.plate.specs.Writing.{plateBytes, plateSized}
 use Rattle.plate.specs.Plate.{plateProgram}

@@ -8,7 +8,7 @@ use mathlib.Core.List.{List, [], _∷_}
 use mathlib.Core.Bool.{Bool, true, false, cond, _&&_, and-assoc}
 use lib.ListN.{length, take, drop, getD, drop-of-length-le}
 use lib.Seq.{drop-cons, drop-nil, drop-drop, getD-drop}
-use lib.Dec.{eqb, leb, leb·suc-suc}
+use lib.Dec.{eqb, leb·suc-suc}
 use borrow.Author.Tests.{eq-eqb, ne-eqb, le-leb, lt-leb}
 use Rattle.text.specs.Parts.{untilByte, split, onFirst, partsFrom, same, all}
 use Rattle.text.proofs.Tests.{same-other}

@@ -12,7 +12,7 @@ use Rattle.decimals.specs.Number.{digits, decimal}
 use Rattle.transcript.specs.declared.Test.{Test}
 use Rattle.transcript.specs.declared.Op.{Op}
 use Rattle.transcript.specs.declared.Op.the-variants.{Eq, Ne, Lt, Le, Gt, Ge}
-use Rattle.transcript.specs.Statement.{Statement, input, inputs, print, printex, compares}
+use Rattle.transcript.specs.Statement.{input, inputs, print, printex, compares}
 use Rattle.transcript.specs.State.{
   asked,
   offered,
@@ -24,7 +24,7 @@ use Rattle.transcript.specs.State.{
   lineBytes,
   transcriptBytes,
 }
-use Rattle.transcript.specs.Perform.{Ending, goesOn, verdict, waits, outside, perform, holds}
+use Rattle.transcript.specs.Perform.{goesOn, verdict, waits, outside, perform, holds}
 
 -- whether each OP, eq to ge, holds
 abbrev verdicts : ℤ → ℤ → List Bool

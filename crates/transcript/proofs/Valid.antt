@@ -1,10 +1,8 @@
 -- Statements and tests that meet the rules.
-use Prim.Native.Nat.{ℕ, _<_, _≤_}
-use mathlib.Core.List.{List}
+use Prim.Native.Nat.{_<_, _≤_}
 use lib.ListN.{length}
 use lib.IntN.{ℤ}
 use lib.Signed.{mag}
-use Rattle.text.specs.Text.{Text}
 use Rattle.text.proofs.Valid.{TextOk, TextsOk}
 use Rattle.transcript.specs.Statement.{Statement, input, inputs, print, printex}
 use Rattle.transcript.specs.declared.Test.{Test}

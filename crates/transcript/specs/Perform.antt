@@ -1,11 +1,11 @@
 -- Document 01, "Walk": what one statement does. "The rest is as in the walk": the run uses the same.
 use Prim.Native.Nat.{ℕ, suc}
 use mathlib.Core.List.{List, [], _∷_, _++_}
-use mathlib.Core.Bool.{Bool, true, false, cond}
+use mathlib.Core.Bool.{Bool, false, cond}
 use lib.ListN.{length, getD, set}
 use lib.Dec.{ltb}
 use lib.IntN.{ℤ, pos, negsuc}
-use Rattle.causes.specs.Answers.{Answer, ended, Output}
+use Rattle.causes.specs.Answers.{ended, Output}
 use Rattle.causes.specs.Causes.{outcomeNumber}
 use Rattle.causes.specs.declared.Outcome.{Outcome}
 use Rattle.causes.specs.declared.Outcome.the-variants.{Verdict, End, Waiting, Outside}

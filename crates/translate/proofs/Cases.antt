@@ -1,7 +1,6 @@
 -- Worked by hand: the instructions of cases (b) and (f), and of ifs within ifs, with their skips.
-use Prim.Native.Nat.{ℕ}
 use mathlib.Core.Path.{_≡_, refl}
-use mathlib.Core.List.{List, [], _∷_}
+use mathlib.Core.List.{[], _∷_}
 use lib.IntN.{ℤ, pos}
 use Rattle.text.specs.Quoted.{bytes}
 use Rattle.transcript.specs.declared.Op.{Op}
@@ -9,7 +8,7 @@ use Rattle.transcript.specs.declared.Op.the-variants.{Eq, Lt, Ge}
 use Rattle.transcript.specs.Statement.{input, print, printex}
 use Rattle.transcript.specs.declared.Test.{Test}
 use Rattle.guide.specs.Block.{Block, empty, does, ifThen, ifElse}
-use Rattle.plate.specs.Program.{Instruction, statement, goto, ifSkip}
+use Rattle.plate.specs.Program.{statement, goto, ifSkip}
 use Rattle.translate.specs.Translation.{translateBlock}
 
 abbrev test : Op → ℤ → Test

@@ -5,16 +5,12 @@ use native.Mathlib.Omega.{arith}
 use mathlib.Core.Path.{_≡_, refl, sym, ap, _∙_}
 use mathlib.Core.List.{List, [], _∷_, _++_}
 use mathlib.Core.Bool.{Bool, true, false, cond}
-use lib.ListN.{length, drop, getD, length-append}
-use lib.IntN.{ℤ, pos}
-use lib.Signed.{mag}
-use lib.Dec.{eqb}
-use borrow.Author.Tests.{eqb-true, eqb-false}
+use lib.ListN.{length, drop, length-append}
+use lib.IntN.{ℤ}
 use Rattle.causes.specs.Answers.{made, Answer, lent}
 use Rattle.causes.specs.Answers as answer
 use Rattle.causes.specs.Causes.{outcomeNumber}
 use Rattle.text.specs.Parts.{split, join, comma, LF}
-use Rattle.text.specs.Text.{Text}
 use Rattle.text.proofs.Splits.{join-split}
 use Rattle.decimals.proofs.Constants.{decimal-short}
 use Rattle.output.proofs.Poured.{ended}
@@ -30,15 +26,15 @@ use Rattle.machine.proofs.Follow.{lay-bytes}
 use Rattle.machine.proofs.Passes.{whole}
 use Rattle.lines.specs.declared.Form.{Form}
 use Rattle.lines.specs.declared.Form.the-variants.{Guide as aGuide}
-use Rattle.lines.specs.Line.{Line, phrase, says, ifLine, elseLine, fiLine, gotoLine, ifSkipLine, faulty, lineOf, unended, linesIn}
+use Rattle.lines.specs.Line.{Line, phrase, says, ifLine, elseLine, fiLine, gotoLine, ifSkipLine, faulty, lineOf, linesIn}
 use Rattle.lines.specs.Check.{linesOf}
 use Rattle.lines.proofs.FieldsRead.{ReadAs, as-fault, as-phrase, as-input, as-inputs, as-print, as-printex}
 use Rattle.lines.proofs.FieldsRead.{as-if, as-else, as-fi, as-goto, as-if-skip, line-read-as}
 use Rattle.guide.specs.Lines.{roleOf, inBlock, beginsBy, firstRole, stops, openBehind, pass, bodyLines, linesAt}
-use Rattle.walk_blocks.specs.Descend.{Left, Walker, here, follow, next, atElse, behindTrue, leaveTrue, leaveElse, elseBlock, walkIf}
+use Rattle.walk_blocks.specs.Descend.{Walker, here, follow, next, atElse, behindTrue, leaveTrue, leaveElse, elseBlock, walkIf}
 use Rattle.machine.specs.Ranged.{Ranged}
 use Rattle.machine.proofs.Ranges.{ranged-rest}
-use Rattle.walk_blocks.specs.Descend.{statementLine, statementWith, blockWith, descend, walkText}
+use Rattle.walk_blocks.specs.Descend.{statementWith, blockWith, descend, walkText}
 
 -- ---- what lines and answers still write
 

@@ -7,7 +7,7 @@ use mathlib.Core.Bool.{Bool, true, false, false≢true}
 use lib.ListN.{length, length-append}
 use Rattle.transcript.specs.State.{State, step}
 use Rattle.transcript.specs.Perform.{Ending, goesOn, verdict, waits, outside, andThen, perform, holds}
-use Rattle.lines.specs.Line.{Line, says, ifLine, elseLine, fiLine}
+use Rattle.lines.specs.Line.{Line, elseLine, fiLine}
 use Rattle.guide.specs.declared.Role.{Role}
 use Rattle.guide.specs.declared.Role.the-variants.{Statement, If, Else, Fi, Nothing}
 use Rattle.guide.specs.Block.{Block, empty, does, ifThen, ifElse, parsed, parse}

@@ -15,7 +15,7 @@ use Rattle.guide.specs.declared.Role.{Role}
 use Rattle.guide.specs.Lines.{firstRole, beginsBy, elseBy, linesAt, pass, lineText, Reads, ReadsLine}
 use Rattle.guide.proofs.Reading.{begins-first}
 use Rattle.walk_blocks.specs.declared.Walked.{Walked}
-use Rattle.walk_blocks.specs.Descend.{Left, Walker, here, next, atElse, leaveTrue, leaveElse, elseBlock, walkIf, statementWith, blockWith, descend}
+use Rattle.walk_blocks.specs.Descend.{Left, here, next, atElse, leaveTrue, leaveElse, elseBlock, walkIf, statementWith, blockWith, descend}
 use Rattle.walk_blocks.specs.Leaves.{Leaves}
 use Rattle.walk_blocks.specs.Says.{isEnd}
 use Rattle.walk_blocks.proofs.Adding.{true-adds, else-adds, descend-adds}

@@ -2,11 +2,10 @@
 use Prim.Native.Nat.{ℕ, _≤_, _<_}
 use native.Mathlib.Omega.{arith}
 use mathlib.Core.Path.{_≡_, refl, sym, ap, _∙_, subst}
-use mathlib.Core.List.{List, [], _∷_, append-nil}
+use mathlib.Core.List.{List, [], append-nil}
 use mathlib.Core.Bool.{true, false, true≢false, false≢true}
 use lib.ListN.{length, drop}
 use lib.IntN.{ℤ}
-use Rattle.causes.specs.Causes.{outcomeNumber}
 use Rattle.causes.specs.declared.Outcome.{Outcome}
 use Rattle.causes.specs.declared.Outcome.the-variants.{Verdict, End, Waiting, Outside}
 use Rattle.transcript.specs.declared.Machine.{Machine}

@@ -24,7 +24,7 @@ use Rattle.lines.proofs.FieldsRead.{ReadAs, as-fault, as-phrase, as-input, as-i
 use Rattle.lines.proofs.FieldsRead.{as-if, as-else, as-fi, as-goto, as-if-skip, line-read-as}
 use Rattle.lines.proofs.Valid.{LineOk, line-valid}
 use Rattle.guide.specs.Lines.{roleOf, beginsBy}
-use Rattle.walk_blocks.specs.Descend.{Left, Walker, here, follow, walkIf, statementWith}
+use Rattle.walk_blocks.specs.Descend.{Walker, here, follow, walkIf, statementWith}
 use Rattle.walk_blocks.specs.Says.{statementBy, Says}
 
 -- ---- the texts of a statement are fields of its line

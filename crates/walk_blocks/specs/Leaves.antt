@@ -4,7 +4,6 @@ use mathlib.Core.Path.{_≡_}
 use mathlib.Core.List.{List}
 use lib.ListN.{length, drop}
 use lib.IntN.{ℤ}
-use Rattle.causes.specs.declared.Outcome.{Outcome}
 use Rattle.causes.specs.declared.Outcome.the-variants.{End}
 use Rattle.transcript.specs.Machine.{laid, performed}
 use Rattle.lines.specs.declared.Form.the-variants.{Guide as aGuide}

@@ -1,5 +1,4 @@
 -- Worked by hand: the walks of cases (c), (d), (e) and (f), and of ifs within ifs, with their steps.
-use Prim.Native.Nat.{ℕ}
 use mathlib.Core.Path.{_≡_, refl}
 use mathlib.Core.List.{List, [], _∷_}
 use lib.IntN.{ℤ, pos, negsuc}

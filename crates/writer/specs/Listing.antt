@@ -1,5 +1,4 @@
 -- The bits of one line of a listing.
-use Prim.Native.Nat.{ℕ}
 use mathlib.Core.List.{List, [], _∷_}
 use mathlib.Core.Bool.{Bool}
 use lib.ListN.{drop, getD}

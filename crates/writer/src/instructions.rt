@@ -10,7 +10,7 @@ ghost use Rattle.phrases.specs.Phrases.{Phrases};
 ghost use Rattle.phrases.specs.Lookup.{phrasesIn};
 ghost use Rattle.phrases.specs.Index.{Listed};
 ghost use Rattle.transcript.specs.Statement.{input, inputs, print, printex};
-ghost use Rattle.plate.specs.Program.{goto, ifSkip};
+ghost use Rattle.plate.specs.Program.{ifSkip};
 ghost use Rattle.plate.specs.Writing.{opCode, statementBits, instructionBits};
 use text_bits::put_constant;
 use text_bits::put_text;

@@ -3,10 +3,6 @@ use borrow.Author.Needs.{needs}
 use Rattle.doorplate.proofs.Values.{written-is}
 use Rattle.doorplate.proofs.doorplate_read_plate.Statement.{statement}
 use Rattle.doorplate.proofs.doorplate_read_plate.Tie as tie
-use Rattle.doorplate.proofs.doorplate_read_plate.Reads as reads
-use Rattle.doorplate.proofs.doorplate_read_plate.Lts as lts
-use Rattle.doorplate.proofs.written_values.Reads as written-values-reads
-use Rattle.read_plate.proofs.read_plate.Reads as read-plate-reads
 
 -- src/lib.rt:112:20
 read-plate-requires : tie.Need-read-plate-requires

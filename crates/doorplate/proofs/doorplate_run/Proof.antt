@@ -3,10 +3,6 @@ use borrow.Author.Needs.{needs}
 use Rattle.doorplate.proofs.Values.{ran-is}
 use Rattle.doorplate.proofs.doorplate_run.Statement.{statement}
 use Rattle.doorplate.proofs.doorplate_run.Tie as tie
-use Rattle.doorplate.proofs.doorplate_run.Reads as reads
-use Rattle.doorplate.proofs.doorplate_run.Lts as lts
-use Rattle.doorplate.proofs.ran_values.Reads as ran-values-reads
-use Rattle.run.proofs.run.Reads as run-reads
 
 -- src/lib.rt:140:16
 run-requires : tie.Need-run-requires

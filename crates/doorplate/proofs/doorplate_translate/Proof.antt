@@ -3,10 +3,6 @@ use borrow.Author.Needs.{needs}
 use Rattle.doorplate.proofs.Values.{written-is}
 use Rattle.doorplate.proofs.doorplate_translate.Statement.{statement}
 use Rattle.doorplate.proofs.doorplate_translate.Tie as tie
-use Rattle.doorplate.proofs.doorplate_translate.Reads as reads
-use Rattle.doorplate.proofs.doorplate_translate.Lts as lts
-use Rattle.doorplate.proofs.written_values.Reads as written-values-reads
-use Rattle.translate.proofs.translate.Reads as translate-reads
 
 -- src/lib.rt:88:20
 translate-requires : tie.Need-translate-requires

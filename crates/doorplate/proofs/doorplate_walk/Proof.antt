@@ -3,10 +3,6 @@ use borrow.Author.Needs.{needs}
 use Rattle.doorplate.proofs.Values.{ran-is}
 use Rattle.doorplate.proofs.doorplate_walk.Statement.{statement}
 use Rattle.doorplate.proofs.doorplate_walk.Tie as tie
-use Rattle.doorplate.proofs.doorplate_walk.Reads as reads
-use Rattle.doorplate.proofs.doorplate_walk.Lts as lts
-use Rattle.doorplate.proofs.ran_values.Reads as ran-values-reads
-use Rattle.walk.proofs.walk.Reads as walk-reads
 
 -- src/lib.rt:125:16
 walk-requires : tie.Need-walk-requires

@@ -3,10 +3,6 @@ use borrow.Author.Needs.{needs}
 use Rattle.doorplate.proofs.Values.{written-is}
 use Rattle.doorplate.proofs.doorplate_write_plate.Statement.{statement}
 use Rattle.doorplate.proofs.doorplate_write_plate.Tie as tie
-use Rattle.doorplate.proofs.doorplate_write_plate.Reads as reads
-use Rattle.doorplate.proofs.doorplate_write_plate.Lts as lts
-use Rattle.doorplate.proofs.written_values.Reads as written-values-reads
-use Rattle.write_plate.proofs.write_plate.Reads as write-plate-reads
 
 -- src/lib.rt:100:20
 write-plate-requires : tie.Need-write-plate-requires

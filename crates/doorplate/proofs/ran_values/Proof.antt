@@ -3,10 +3,6 @@ use borrow.Author.Needs.{needs}
 use Rattle.doorplate.proofs.Values.{ended, not-run}
 use Rattle.doorplate.proofs.ran_values.Statement.{statement}
 use Rattle.doorplate.proofs.ran_values.Tie as tie
-use Rattle.doorplate.proofs.ran_values.Reads as reads
-use Rattle.doorplate.proofs.ran_values.Lts as lts
-use Rattle.causes.proofs.number_of.Reads as number-of-reads
-use Rattle.causes.proofs.outcome_of.Reads as outcome-of-reads
 
 -- src/lib.rt:58:27
 enum-known-answer : tie.Need-enum-known-answer

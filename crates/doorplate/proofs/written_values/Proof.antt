@@ -3,9 +3,6 @@ use borrow.Author.Needs.{needs}
 use Rattle.doorplate.proofs.Values.{wrote, not-written}
 use Rattle.doorplate.proofs.written_values.Statement.{statement}
 use Rattle.doorplate.proofs.written_values.Tie as tie
-use Rattle.doorplate.proofs.written_values.Reads as reads
-use Rattle.doorplate.proofs.written_values.Lts as lts
-use Rattle.causes.proofs.number_of.Reads as number-of-reads
 
 -- src/lib.rt:37:31
 enum-known-answer : tie.Need-enum-known-answer

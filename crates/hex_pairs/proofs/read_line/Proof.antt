@@ -1,7 +1,6 @@
 -- `read_line` meets its contract: the pairs of the line are those written and those from the place i on.
 use borrow.Author.Needs.{needs}
-use Prim.Native.Nat.{_≤_, _-_}
-use native.Mathlib.Omega.{arith}
+use Prim.Native.Nat.{_-_}
 use mathlib.Core.Path.{_≡_}
 use lib.ListN.{length}
 use Rattle.hex_pairs.proofs.Reading.{Left, pairs-end, pairs-lone, pairs-high, pairs-low, pairs-pair, started, passed, stopped, stored}

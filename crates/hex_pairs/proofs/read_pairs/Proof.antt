@@ -2,7 +2,6 @@
 use borrow.Author.Tests.{not-true, not-false}
 use borrow.Author.Needs.{needs}
 use Prim.Native.Nat.{_+_, _≤_, _-_}
-use native.Mathlib.Omega.{arith}
 use mathlib.Core.Path.{_≡_}
 use lib.ListN.{length}
 use Rattle.hex_pairs.proofs.Reading.{LinesLeft, lines-started, lines-stopped, lines-fault, lines-onward}

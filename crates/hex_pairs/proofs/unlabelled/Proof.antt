@@ -1,6 +1,5 @@
 -- `unlabelled` meets its contract: where the first six bytes are the label, the line has at least six.
 use native.Mathlib.Omega.{arith}
-use mathlib.Core.Path.{sym, _∙_}
 use Rattle.hex_pairs.proofs.Labels.{label-fits, label-off, label-none}
 use borrow.Author.Needs.{needs}
 use Rattle.hex_pairs.proofs.unlabelled.Statement.{statement}

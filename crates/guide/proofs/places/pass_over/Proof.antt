@@ -1,7 +1,7 @@
 -- `pass_over` meets its contract: what is left to pass from `at` on, with `depth` ifs open, is what was to pass from a on.
 use borrow.Author.Needs.{needs}
 use Prim.Native.Nat.{_≤_, _-_}
-use mathlib.Core.Path.{_≡_, refl, sym, ap, _∙_}
+use mathlib.Core.Path.{_≡_, refl, sym, _∙_}
 use native.Mathlib.Omega.{arith}
 use lib.ListN.{length, drop}
 use Rattle.lines.specs.declared.Form.the-variants.{Guide as aGuide}

@@ -7,7 +7,6 @@ use Rattle.fields.proofs.Onward.{then-got, then-stopped}
 use Rattle.fields.proofs.Answers.{field-got, field-refused}
 use Rattle.instructions.proofs.passing.pass_goto.Statement.{statement}
 use Rattle.instructions.proofs.passing.pass_goto.Tie as tie
-use Rattle.fields.proofs.read_skip.Reads as read-skip-reads
 
 read-skip-requires : tie.Need-read-skip-requires
 read-skip-requires c κs = search needs

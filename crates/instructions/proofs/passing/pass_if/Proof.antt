@@ -7,9 +7,6 @@ use Rattle.fields.proofs.Onward.{then-got, then-stopped}
 use Rattle.fields.proofs.Answers.{field-got, field-refused, test-got, test-stopped}
 use Rattle.instructions.proofs.passing.pass_if.Statement.{statement}
 use Rattle.instructions.proofs.passing.pass_if.Tie as tie
-use Rattle.fields.proofs.TestRead.refusal.Reads as refusal-reads
-use Rattle.fields.proofs.read_skip.Reads as read-skip-reads
-use Rattle.fields.proofs.read_test.Reads as read-test-reads
 
 read-test-requires : tie.Need-read-test-requires
 read-test-requires c κs = search needs

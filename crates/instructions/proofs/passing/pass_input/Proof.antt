@@ -8,8 +8,6 @@ use Rattle.fields.proofs.Answers.{field-got, field-refused}
 use Rattle.plate_texts.proofs.Ended.{ended-map}
 use Rattle.instructions.proofs.passing.pass_input.Statement.{statement}
 use Rattle.instructions.proofs.passing.pass_input.Tie as tie
-use Rattle.fields.proofs.read_plain.Reads as read-plain-reads
-use Rattle.plate_texts.proofs.pass_text.Reads as pass-text-reads
 
 read-plain-requires : tie.Need-read-plain-requires
 read-plain-requires c κs = search needs

@@ -11,10 +11,6 @@ use Rattle.plate_texts.proofs.Ended.{ended-some, ended-stopped}
 use Rattle.instructions.proofs.FieldsRead.{options-got, options-stopped, options-refused}
 use Rattle.instructions.proofs.passing.pass_inputs.Statement.{statement}
 use Rattle.instructions.proofs.passing.pass_inputs.Tie as tie
-use Rattle.fields.proofs.read_field.Reads as read-field-reads
-use Rattle.fields.proofs.read_plain.Reads as read-plain-reads
-use Rattle.plate_texts.proofs.pass_text.Reads as pass-text-reads
-use Rattle.plate_texts.proofs.pass_texts.Reads as pass-texts-reads
 
 read-plain-requires : tie.Need-read-plain-requires
 read-plain-requires c κs = search needs

@@ -10,12 +10,6 @@ use Rattle.fields.proofs.Answers.{field-got, field-refused}
 use Rattle.instructions.proofs.FieldsRead.{fields-code, fields-shown}
 use Rattle.instructions.proofs.passing.pass_instruction.Statement.{statement}
 use Rattle.instructions.proofs.passing.pass_instruction.Tie as tie
-use Rattle.fields.proofs.read_field.Reads as read-field-reads
-use Rattle.instructions.proofs.passing.pass_goto.Reads as pass-goto-reads
-use Rattle.instructions.proofs.passing.pass_if.Reads as pass-if-reads
-use Rattle.instructions.proofs.passing.pass_input.Reads as pass-input-reads
-use Rattle.instructions.proofs.passing.pass_inputs.Reads as pass-inputs-reads
-use Rattle.plate_texts.proofs.pass_text.Reads as pass-text-reads
 
 read-field-requires : tie.Need-read-field-requires
 read-field-requires c κs = search needs

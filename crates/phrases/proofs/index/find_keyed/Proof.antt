@@ -1,7 +1,7 @@
 -- `find_keyed` meets its contract: no text from the link on is the one looked for, and each link is smaller.
 use borrow.Author.Needs.{needs}
 use native.Mathlib.Omega.{arith}
-use Prim.Native.Nat.{ℕ, _+_, _-_, _<_, _%_}
+use Prim.Native.Nat.{ℕ, _+_, _<_, _%_}
 use mathlib.Core.Path.{_≡_, sym, ap, subst, _∙_}
 use Rattle.phrases.specs.Lookup.{bookTexts, placeAnswer}
 use Rattle.phrases.specs.Index.{listOf, lastOf}

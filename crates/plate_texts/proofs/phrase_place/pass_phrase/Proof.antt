@@ -7,10 +7,6 @@ use Rattle.plate_texts.specs.Sources.{sourceRead, sourceRefusal}
 use Rattle.plate_texts.proofs.PhraseRead.{source-of, source-stopped, source-good, phrase-read, phrase-ended}
 use Rattle.plate_texts.proofs.phrase_place.pass_phrase.Statement.{statement}
 use Rattle.plate_texts.proofs.phrase_place.pass_phrase.Tie as tie
-use Rattle.phrases.proofs.count_of.Reads as count-of-reads
-use Rattle.plate_texts.proofs.phrase_place.Source.refusal.Reads as refusal-reads
-use Rattle.plate_texts.proofs.phrase_place.read_place.Reads as read-place-reads
-use Rattle.plate_texts.proofs.phrase_place.read_source.Reads as read-source-reads
 
 count-of-requires : tie.Need-count-of-requires
 count-of-requires c κs = search needs

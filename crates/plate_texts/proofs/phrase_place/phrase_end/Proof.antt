@@ -9,10 +9,6 @@ use Rattle.plate_texts.specs.TextsAt.{textsRead}
 use Rattle.plate_texts.proofs.PhraseRead.{phraseOf, width-small, source-of, source-stopped, source-good, phrase-read, place-known}
 use Rattle.plate_texts.proofs.phrase_place.phrase_end.Statement.{statement}
 use Rattle.plate_texts.proofs.phrase_place.phrase_end.Tie as tie
-use Rattle.fields.proofs.read_plain.Reads as read-plain-reads
-use Rattle.phrases.proofs.count_of.Reads as count-of-reads
-use Rattle.phrases.proofs.width_of.Reads as width-of-reads
-use Rattle.plate_texts.proofs.phrase_place.read_source.Reads as read-source-reads
 
 count-of-requires : tie.Need-count-of-requires
 count-of-requires c κs = search needs

@@ -6,7 +6,6 @@ use Rattle.fields.specs.Places.{untilETX}
 use Rattle.plate_texts.proofs.Known.{known-judged}
 use Rattle.plate_texts.proofs.spelled_text.accepted_spelled.Statement.{statement}
 use Rattle.plate_texts.proofs.spelled_text.accepted_spelled.Tie as tie
-use Rattle.fields.proofs.read_size.Reads as read-size-reads
 
 read-size-requires : tie.Need-read-size-requires
 read-size-requires c κs = search needs

@@ -11,9 +11,6 @@ use Rattle.fields.proofs.Copied.{length-characters, copied}
 use Rattle.plate_texts.proofs.TextsRead.{none-there}
 use Rattle.plate_texts.proofs.spelled_text.is_good.Statement.{statement}
 use Rattle.plate_texts.proofs.spelled_text.is_good.Tie as tie
-use Rattle.fields.proofs.put_characters.Reads as put-characters-reads
-use Rattle.phrases.proofs.count_of.Reads as count-of-reads
-use Rattle.plate_texts.proofs.spelled_text.is_new.Reads as is-new-reads
 
 returns : tie.Need-returns
 returns c = let h : c .before .before .before .before .before .args .size < 1 = omega arith in simp (length-characters, lt-leb 1 _ h)

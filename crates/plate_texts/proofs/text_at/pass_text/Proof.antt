@@ -14,10 +14,6 @@ use Rattle.plate_texts.proofs.PhraseRead.{book-count}
 use Rattle.plate_texts.proofs.TextsRead.{text-code, some-phrase, by-spelled, by-phrase}
 use Rattle.plate_texts.proofs.text_at.pass_text.Statement.{statement}
 use Rattle.plate_texts.proofs.text_at.pass_text.Tie as tie
-use Rattle.phrases.proofs.count_of.Reads as count-of-reads
-use Rattle.plate_texts.proofs.phrase_place.pass_phrase.Reads as pass-phrase-reads
-use Rattle.plate_texts.proofs.spelled_text.read_spelled.Reads as read-spelled-reads
-use Rattle.plate_texts.proofs.text_at.read_code.Reads as read-code-reads
 
 -- the code, as the reader judges it
 code-read : (c : tie.After-read-code) →

@@ -1,5 +1,4 @@
 -- `is_text_byte` meets its contract: a comma is none, and of the others those that are allowed.
-use mathlib.Core.Path.{sym, _∙_}
 use mathlib.Core.Bool.{and-true, and-false}
 use borrow.Author.Needs.{needs}
 use borrow.Author.Tests.{eq-eqb, ne-eqb}

@@ -1,7 +1,6 @@
 -- `copy` meets its contract: the first i bytes are stored.
 use borrow.Author.Needs.{needs}
 use Prim.Native.Nat.{_+_, _≤_, _-_}
-use native.Mathlib.Omega.{arith}
 use mathlib.Core.Path.{_≡_, sym, ap, _∙_}
 use lib.ListN.{length, take, getD, set}
 use lib.Seq.{take-all}

@@ -1,5 +1,4 @@
 -- `put_natural` meets its contract: the digits behind the place k are found, from the last one on.
-use Prim.Native.Nat.{_≤_}
 use native.Mathlib.Omega.{arith}
 use mathlib.Core.Path.{_≡_}
 use lib.ListN.{length, length-set}

@@ -2,7 +2,7 @@
 -- measure is the number of lines left, twice.
 use borrow.Author.Needs.{needs}
 use Prim.Native.Nat.{ℕ, _*_, _+_, _<_, _≤_}
-use mathlib.Core.Path.{_≡_, sym, _∙_}
+use mathlib.Core.Path.{sym, _∙_}
 use native.Mathlib.Omega.{arith}
 use lib.ListN.{length, drop}
 use Rattle.lines.specs.declared.Form.the-variants.{Guide as aGuide}

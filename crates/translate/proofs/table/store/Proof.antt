@@ -1,6 +1,5 @@
 -- `store` meets its contract: with a place for the number or without.
-use mathlib.Core.Path.{sym, _∙_}
-use lib.Seq.{set-out}
+use mathlib.Core.Path.{sym}
 use Rattle.output.proofs.Pour.{pour-one, pour-past}
 use borrow.Author.Needs.{needs}
 use Rattle.translate.proofs.table.store.Statement.{statement}

@@ -1,6 +1,5 @@
 -- `here` meets its contract: nothing is written.
 use borrow.Author.Needs.{needs}
-use mathlib.Core.Path.{refl}
 use native.Mathlib.Omega.{arith}
 use Rattle.walk_blocks.proofs.Leaving.{leaves-here}
 use Rattle.walk_blocks.proofs.leave.here.Statement.{statement}

@@ -1,8 +1,5 @@
 -- `offer` meets its contract: the C line, and then the answer.
-use Prim.Native.Nat.{_<_, _≤_}
 use native.Mathlib.Omega.{arith}
-use mathlib.Core.Path.{ap}
-use lib.ListN.{length}
 use Rattle.statements.proofs.Performs.{lay-offered}
 use Rattle.walk_blocks.proofs.Options.{question-there, write-line}
 use borrow.Author.Needs.{needs}

@@ -1,9 +1,10 @@
 -- Characters of a text, 7 bits each, put together as one number.
-use Prim.Native.Nat.{ℕ, _+_, _*_, _%_, _^_, _≤_, _<_}
+use Prim.Native.Nat.{ℕ, _+_, _-_, _*_, _%_, _^_, _≤_, _<_}
 use native.Mathlib.Omega.{arith}
 use native.Mathlib.Nat.{mod-lt, lt-of-lt-of-le}
 use mathlib.Core.Path.{_≡_, refl, sym, _∙_}
 use mathlib.Core.List.{List, _++_, append-assoc}
+use mathlib.Core.Bool.{Bool}
 use mir.Syntax.{w8}
 use mir.Val.{Fits}
 use lib.ListN.{length, drop, getD}
@@ -51,28 +52,29 @@ eight-next t i h =
     ∙ character-behind t (i + 6) 42 _ (i + 7) (omega arith) (omega arith)
     ∙ character-behind t (i + 7) 49 _ (i + 8) (omega arith) (omega arith)
 
--- the characters of t from one place up to another are the number `value` of `width` bits
-pub record Gathered (t : Text) (from i width value : ℕ) : Type 0 where
-  pub bits : bitsOf width value ++ spelledBits (drop i t) ≡ spelledBits (drop from t)
-  pub below : value < 2 ^ width
-  pub counted : width + from * 7 ≡ i * 7
+-- what goes before the characters of t from the place i on is the number `value` of `width` bits, with room for the rest in 56 bits
+pub record Gathered (whole : List Bool) (t : Text) (i width value : ℕ) : Type 0 where
+  pub bits : bitsOf width value ++ spelledBits (drop i t) ≡ whole
+  pub below : value < 2 ^ (width + 8)
+  pub room : width + (length t - i) * 7 ≤ 49
 
-pub gather-start : (t : Text) (from : ℕ) → Gathered t from from 0 0
-unfolding bitsOf
-gather-start t from = record { bits = refl; below = omega arith; counted = omega arith }
+pub gather-start : (t : Text) (i width value : ℕ) → value < 2 ^ (width + 8) → width + (length t - i) * 7 ≤ 49
+    → Gathered (bitsOf width value ++ spelledBits (drop i t)) t i width value
+gather-start t i width value h k = record { bits = refl; below = h; room = k }
 
-module _ {t : Text} {from i width value : ℕ} (g : Gathered t from i width value) where
-  pub gather-turn : i < length t → Gathered t from (i + 1) (width + 7) (value * 128 + getD t i 0 % 128)
+module _ {whole : List Bool} {t : Text} {i width value : ℕ} (g : Gathered whole t i width value) where
+  pub gather-turn : i < length t → Gathered whole t (i + 1) (width + 7) (value * 128 + getD t i 0 % 128)
   gather-turn h =
+      let sum : width + 7 + 8 ≡ width + 8 + 7 = omega arith in
       record {
         bits = sym (character-behind t i width value (i + 1) h refl) ∙ g .bits;
-        below = rw (pow-add 2 width 7) (digits-lt (g .below) (mod-lt (getD t i 0) (omega arith)));
-        counted = omega (arith, g .counted);
+        below = rw (sum, pow-add 2 (width + 8) 7) (digits-lt (g .below) (mod-lt (getD t i 0) (omega arith)));
+        room = omega (arith, g .room);
       }
 
-  -- seven at most
-  pub gather-below : width ≤ 49 → value < 562949953421312
-  gather-below h = lt-of-lt-of-le (g .below) (pow-mono {i = width} {j = 49} h)
+  -- with 7 bits more it is a number of 64 bits
+  pub gather-below : value < 144115188075855872
+  gather-below = lt-of-lt-of-le (g .below) (pow-mono {i = width + 8} {j = 57} (omega (arith, g .room)))
 
-  pub gather-end : length t ≤ i → spelledBits (drop from t) ≡ bitsOf (width + 7) (value * 128 + 3)
+  pub gather-end : length t ≤ i → whole ≡ bitsOf (width + 7) (value * 128 + 3)
   gather-end h = sym (g .bits) ∙ end-behind t i width value h

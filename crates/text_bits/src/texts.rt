@@ -1,7 +1,7 @@
 // Texts: spelled, or as the place of a phrase.
 ghost use mathlib.Core.Path.{_≡_};
 ghost use mathlib.Core.List.{_++_};
-ghost use Prim.Native.Nat.{_+_, _≤_, _<_};
+ghost use Prim.Native.Nat.{_+_, _-_, _*_, _^_, _≤_, _<_};
 ghost use lib.ListN.{length, drop};
 ghost use Rattle.output.specs.Pour.{poured};
 ghost use Rattle.bits.specs.Bits.{bitsOf, bytesBits};
@@ -23,13 +23,20 @@ fn eight(text: &[u8], i: usize) -> usize
     c * 128 + text[i + 7] as usize % 128
 }
 
-// The last characters, at most seven from a place on, and ETX, as one number.
-fn put_rest(out: &mut [u8], at: usize, text: &[u8], from: usize) -> usize
-    requires { ⌜ (from ≤ length (now text)) × (length (now text) ≤ from + 7) ⌝ }
-    ensures { λ r. ⌜ (r, bytesBits (now (out .exit))) ≡ poured at (spelledBits (drop from (now (text .entry)))) (bytesBits (now (out .entry))) ⌝ }
+// `prefix` bits of a number, then the characters from a place on, at most seven, and ETX, all as one number.
+fn put_rest(
+    out: &mut [u8],
+    at: usize,
+    prefix: usize,
+    front: usize,
+    text: &[u8],
+    from: usize,
+) -> usize
+    requires { ⌜ (from ≤ length (now text)) × (prefix + (length (now text) - from) * 7 ≤ 49) × (front < 2 ^ (prefix + 8)) ⌝ }
+    ensures { λ r. ⌜ (r, bytesBits (now (out .exit))) ≡ poured at (bitsOf prefix front ++ spelledBits (drop from (now (text .entry)))) (bytesBits (now (out .entry))) ⌝ }
 {
-    let mut value = 0;
-    let mut width = 0;
+    let mut value = front;
+    let mut width = prefix;
     let mut i = from;
     while i < text.len() {
         value = value * 128 + text[i] as usize % 128;
@@ -50,7 +57,7 @@ pub fn put_spelled(out: &mut [u8], at: usize, text: &[u8]) -> usize
         end = bits::put_bits(out, end, 56, eight(text, i));
         i += 8;
     }
-    put_rest(out, end, text, i)
+    put_rest(out, end, 0, 0, text, i)
 }
 
 // How many own phrases there are.
@@ -95,6 +102,18 @@ fn put_source(
     bits::put_bits(out, at, width + 3, coded * 2 + source)
 }
 
+// What goes before a text that is no phrase, `width` bits of a number; then 00, and the text spelled. All that is one number where the text is short.
+fn put_new(out: &mut [u8], at: usize, width: usize, front: usize, text: &[u8]) -> usize
+    requires { ⌜ (length (now out) ≤ 2953) × (width ≤ 8) × (front < 256) ⌝ }
+    ensures { λ r. ⌜ (r, bytesBits (now (out .exit))) ≡ poured at (bitsOf width front ++ bitsOf 2 0 ++ spelledBits (now (text .entry))) (bytesBits (now (out .entry))) ⌝ }
+{
+    if text.len() <= 5 {
+        return put_rest(out, at, width + 2, front * 4, text, 0);
+    }
+    let end = bits::put_bits(out, at, width + 2, front * 4);
+    put_spelled(out, end, text)
+}
+
 // What goes before a text, `width` bits of a number; then the text: a phrase's place where it is a phrase, else spelled.
 pub fn put_text(
     out: &mut [u8],
@@ -119,10 +138,7 @@ pub fn put_text(
             let end = put_source(out, at, width, front, 1, index, book, own, count);
             bits::put_bits(out, end, phrases::width_of(count), i)
         }
-        Found::Nowhere => {
-            let end = bits::put_bits(out, at, width + 2, front * 4);
-            put_spelled(out, end, text)
-        }
+        Found::Nowhere => put_new(out, at, width, front, text),
     }
 }
 

@@ -3,6 +3,7 @@ use Prim.Native.Nat.{_≤_, _-_}
 use mathlib.Core.Path.{refl}
 use lib.ListN.{length, drop}
 use borrow.Author.Needs.{needs}
+use Rattle.bits.specs.Bits.{bitsOf}
 use Rattle.plate.specs.Writing.{spelledBits}
 use Rattle.text_bits.proofs.Writes.{Left, begun, turned}
 use Rattle.text_bits.proofs.texts.put_spelled.Statement.{statement}
@@ -42,6 +43,7 @@ same-length : tie.Need-same-length Inv-loop μ-loop
 same-length c = search needs
 
 returns : tie.Need-returns Inv-loop μ-loop
+unfolding bitsOf
 returns c = c .before .before .before .before .before .loop .inv .0 .makes _ (c .before .before .put-rest .ensures)
 
 pub put-spelled-spec : {M : Type 1} → statement M

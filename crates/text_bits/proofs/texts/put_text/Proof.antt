@@ -7,7 +7,6 @@ use Rattle.phrases.specs.Phrases.{width}
 use Rattle.phrases.proofs.Answers.{found-is}
 use Rattle.phrases.proofs.Entries.{indexed-count}
 use Rattle.plate.specs.Writing.{textBits}
-use Rattle.text_bits.proofs.Codes.{spelled-code}
 use Rattle.text_bits.proofs.Writes.{both}
 use Rattle.text_bits.proofs.TextBits.{width-fits}
 use Rattle.text_bits.proofs.texts.put_text.Statement.{statement}
@@ -50,17 +49,8 @@ put-bits-requires-2 c κs = rw (c .width-of2 .ensures) (width-fits _ (search nee
 enum-told : tie.Need-enum-told
 enum-told c = search needs
 
-add-put-bits : tie.Need-add-put-bits
-add-put-bits c = search needs
-
-mul-put-bits : tie.Need-mul-put-bits
-mul-put-bits c = search needs
-
-put-bits-requires-3 : tie.Need-put-bits-requires-3
-put-bits-requires-3 c κs = search needs
-
-put-spelled-requires : tie.Need-put-spelled-requires
-put-spelled-requires c κs = search needs
+put-new-requires : tie.Need-put-new-requires
+put-new-requires c κs = search needs
 
 same-length : tie.Need-same-length
 same-length c = search needs
@@ -96,12 +86,10 @@ same-length-3 c = search needs
 returns-3 : tie.Need-returns-3
 unfolding textBits
 returns-3 c =
-    let b = c .before .before .before .before .before .before in
-    let f = b .before .before .before .before in
-    let start = f .before .before .before .before .before .before in
-    let found = found-is _ _ (sym (f .find-phrase .ensures) ∙ b .before .before .enum-told .given .1) in
-    let code = rw (spelled-code (start .args .width) (start .args .front)) at (b .put-bits3 .ensures) in
-    rw (found, ← append-assoc) (both _ _ _ _ code (c .before .before .put-spelled .ensures) (start .pre .0))
+    let n = c .before .before .before .before in
+    let f = n .before .before in
+    let found = found-is _ _ (sym (f .find-phrase .ensures) ∙ n .enum-told .given .1) in
+    rw (found, ← append-assoc) (c .before .before .put-new .ensures)
 
 pub put-text-spec : {M : Type 1} → statement M
 put-text-spec =
@@ -118,10 +106,7 @@ put-text-spec =
     width-of-requires-2
     put-bits-requires-2
     enum-told
-    add-put-bits
-    mul-put-bits
-    put-bits-requires-3
-    put-spelled-requires
+    put-new-requires
     same-length
     returns
     same-length-2

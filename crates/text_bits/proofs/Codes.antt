@@ -1,8 +1,11 @@
--- A number with a text's first bits behind it, as one number.
-use Prim.Native.Nat.{ℕ, _+_, _*_, _%_, _<_}
+-- A number with a text's first bits, or a phrase's place, behind it, as one number.
+use Prim.Native.Nat.{ℕ, _+_, _*_, _%_, _^_, _≤_, _<_}
 use native.Mathlib.Omega.{arith}
-use mathlib.Core.Path.{_≡_}
+use native.Mathlib.Nat.{one-mul, mod-lt, mul-le-mul-left, lt-of-lt-of-le}
+use mathlib.Core.Path.{_≡_, _∙_}
 use mathlib.Core.List.{_++_}
+use lib.Arith.{digits-lt}
+use lib.Pow.{pow-pos, pow-mono, shl-exact}
 use Rattle.bits.specs.Bits.{bitsOf}
 use Rattle.bits.proofs.Fields.{bits-behind}
 
@@ -19,3 +22,11 @@ module _ (w v : ℕ) where
       let wide : w + 2 + 1 ≡ w + 3 = omega arith in
       let low : s % 2 ≡ s = omega arith in
       rw (← phrase-code) (rw (wide, low) at (bits-behind (w + 2) 1 (v * 4 + 2) s))
+
+-- k bits behind a number: the power of two as a shift makes it, and the number of both
+module _ (k : ℕ) (h : k ≤ 16) where
+  pub unit-is : (1 * 2 ^ k) % 2 ^ 64 ≡ 2 ^ k
+  unit-is = shl-exact 1 k 64 (omega arith) (omega arith) ∙ one-mul (2 ^ k)
+
+  pub behind-below : (v i : ℕ) → v < 2048 → v * 2 ^ k + i % 2 ^ k < 134217728
+  behind-below v i l = lt-of-lt-of-le (digits-lt l (mod-lt i (pow-pos k))) (mul-le-mul-left 2048 (pow-mono {i = k} {j = 16} h))

@@ -51,7 +51,7 @@ module _ (b : ℕ) where
   own-bit-both (s ∷ ss) [] h k = absurd (k refl)
   own-bit-both (s ∷ ss) (t ∷ ts) h k = refl
 
--- ---- a place fits a number of 56 bits
+-- ---- a place has at most 16 bits
 
-pub width-fits : (n : ℕ) → n ≤ 65536 → width n ≤ 56
-width-fits n h = omega (arith, width-least n 16 h)
+pub width-fits : (n : ℕ) → n ≤ 65536 → width n ≤ 16
+width-fits n h = width-least n 16 h

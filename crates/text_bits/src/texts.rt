@@ -76,30 +76,48 @@ pub fn count_own(own: &[u8], count: usize) -> usize
     n
 }
 
-// What goes before a phrase's place: `width` bits of a number, then 10, and where both the book and the own phrases have some, a bit that is 0
-// for the book and 1 for own.
-fn put_source(
+// `width` bits of a number, then the lowest `places` bits of another, as one number.
+fn put_behind(
+    out: &mut [u8],
+    at: usize,
+    width: usize,
+    front: usize,
+    places: usize,
+    i: usize,
+) -> usize
+    requires { ⌜ (width ≤ 11) × (front < 2048) × (places ≤ 16) ⌝ }
+    ensures { λ r. ⌜ (r, bytesBits (now (out .exit))) ≡ poured at (bitsOf width front ++ bitsOf places i) (bytesBits (now (out .entry))) ⌝ }
+{
+    let unit: usize = 1 << places;
+    bits::put_bits(out, at, width + places, front * unit + i % unit)
+}
+
+// What goes before a phrase, `width` bits of a number; then 10, where both the book and the own phrases have some a bit that is 0 for the book
+// and 1 for own, and the phrase's place in `places` bits, all as one number.
+fn put_place(
     out: &mut [u8],
     at: usize,
     width: usize,
     front: usize,
     source: usize,
+    places: usize,
+    i: usize,
     index: &[u32],
     book: &[u8],
     own: &[u8],
     count: usize,
 ) -> usize
-    requires { ⌜ (length (now out) ≤ 2953) × (width ≤ 8) × (front < 256) × (source < 2) × Listed (now index) (now book) (now own) count ⌝ }
-    ensures { λ r. ⌜ (r, bytesBits (now (out .exit))) ≡ poured at (bitsOf width front ++ bitsOf 2 2 ++ ownBit (bookTexts (now (book .entry))) (ownTexts count (now (own .entry))) source) (bytesBits (now (out .entry))) ⌝ }
+    requires { ⌜ (width ≤ 8) × (front < 256) × (source < 2) × (places ≤ 16) × Listed (now index) (now book) (now own) count ⌝ }
+    ensures { λ r. ⌜ (r, bytesBits (now (out .exit))) ≡ poured at (bitsOf width front ++ bitsOf 2 2 ++ ownBit (bookTexts (now (book .entry))) (ownTexts count (now (own .entry))) source ++ bitsOf places i) (bytesBits (now (out .entry))) ⌝ }
 {
     let coded = front * 4 + 2;
     if phrases::count_of(index) == 0 {
-        return bits::put_bits(out, at, width + 2, coded);
+        return put_behind(out, at, width + 2, coded, places, i);
     }
     if count == 0 {
-        return bits::put_bits(out, at, width + 2, coded);
+        return put_behind(out, at, width + 2, coded, places, i);
     }
-    bits::put_bits(out, at, width + 3, coded * 2 + source)
+    put_behind(out, at, width + 3, coded * 2 + source, places, i)
 }
 
 // What goes before a text that is no phrase, `width` bits of a number; then 00, and the text spelled. All that is one number where the text is short.
@@ -131,12 +149,12 @@ pub fn put_text(
 {
     match phrases::find_phrase(index, book, own, count, text) {
         Found::InBook(i) => {
-            let end = put_source(out, at, width, front, 0, index, book, own, count);
-            bits::put_bits(out, end, phrases::width_of(phrases::count_of(index)), i)
+            let places = phrases::width_of(phrases::count_of(index));
+            put_place(out, at, width, front, 0, places, i, index, book, own, count)
         }
         Found::InOwn(i) => {
-            let end = put_source(out, at, width, front, 1, index, book, own, count);
-            bits::put_bits(out, end, phrases::width_of(count), i)
+            let places = phrases::width_of(count);
+            put_place(out, at, width, front, 1, places, i, index, book, own, count)
         }
         Found::Nowhere => put_new(out, at, width, front, text),
     }

@@ -7,7 +7,6 @@ use Rattle.phrases.specs.Phrases.{width}
 use Rattle.phrases.proofs.Answers.{found-is}
 use Rattle.phrases.proofs.Entries.{indexed-count}
 use Rattle.plate.specs.Writing.{textBits}
-use Rattle.text_bits.proofs.Writes.{both}
 use Rattle.text_bits.proofs.TextBits.{width-fits}
 use Rattle.text_bits.proofs.texts.put_text.Statement.{statement}
 use Rattle.text_bits.proofs.texts.put_text.Tie as tie
@@ -18,33 +17,27 @@ find-phrase-requires c κs = search needs
 enum-known-i : tie.Need-enum-known-i
 enum-known-i c = search needs
 
-put-source-requires : tie.Need-put-source-requires
-put-source-requires c κs = search needs
-
 count-of-requires : tie.Need-count-of-requires
 count-of-requires c κs = search needs
 
 width-of-requires : tie.Need-width-of-requires
 width-of-requires c κs =
-    let listed = c .before .before .before .before .before .before .before .before .before .before .before .before .before .before .before .pre .3 .0 in
+    let listed = c .before .before .before .before .before .before .before .before .before .before .pre .3 .0 in
     omega (arith, c .count-of .ensures, indexed-count _ _ listed, listed .few)
 
-put-bits-requires : tie.Need-put-bits-requires
-put-bits-requires c κs =
-    let listed = c .before .before .before .before .before .before .before .before .before .before .before .before .before .before .before .before .pre .3 .0 in
-    rw (c .width-of .ensures) (width-fits _ (omega (arith, c .before .count-of .ensures, indexed-count _ _ listed, listed .few)))
+put-place-requires : tie.Need-put-place-requires
+put-place-requires c κs =
+    let listed = c .before .before .before .before .before .before .before .before .before .before .before .before .pre .3 .0 in
+    (search needs, search needs, search needs, rw (c .before .width-of .ensures) (width-fits _ (omega (arith, c .before .before .count-of .ensures, indexed-count _ _ listed, listed .few))), search needs)
 
 enum-known-i-2 : tie.Need-enum-known-i-2
 enum-known-i-2 c = search needs
 
-put-source-requires-2 : tie.Need-put-source-requires-2
-put-source-requires-2 c κs = search needs
-
 width-of-requires-2 : tie.Need-width-of-requires-2
 width-of-requires-2 c κs = search needs
 
-put-bits-requires-2 : tie.Need-put-bits-requires-2
-put-bits-requires-2 c κs = rw (c .width-of2 .ensures) (width-fits _ (search needs))
+put-place-requires-2 : tie.Need-put-place-requires-2
+put-place-requires-2 c κs = (search needs, search needs, search needs, rw (c .before .width-of2 .ensures) (width-fits _ (search needs)), search needs)
 
 enum-told : tie.Need-enum-told
 enum-told c = search needs
@@ -58,13 +51,13 @@ same-length c = search needs
 returns : tie.Need-returns
 unfolding textBits
 returns c =
-    let w = c .before .before .before in
-    let s = w .before .before .before .before .before in
-    let f = s .before .before .before .before .before in
+    let w = c .before .before .before .before in
+    let i = w .before .before .before in
+    let f = i .before .before in
     let start = f .before .before .before .before .before .before in
-    let found = found-is _ _ (sym (f .find-phrase .ensures) ∙ s .before .before .before .i .given .1) in
+    let found = found-is _ _ (sym (f .find-phrase .ensures) ∙ i .i .given .1) in
     let size = w .width-of .ensures ∙ ap width (w .before .count-of .ensures ∙ sym (indexed-count _ _ (start .pre .3 .0))) in
-    rw found (simp append-assoc (simp append-assoc at (both _ _ _ _ (s .put-source .ensures) (rw size at (c .before .before .put-bits .ensures)) (start .pre .0))))
+    rw found (simp append-assoc (simp append-assoc at (rw size at (c .before .before .put-place .ensures))))
 
 same-length-2 : tie.Need-same-length-2
 same-length-2 c = search needs
@@ -72,13 +65,13 @@ same-length-2 c = search needs
 returns-2 : tie.Need-returns-2
 unfolding textBits
 returns-2 c =
-    let w = c .before .before .before in
-    let s = w .before .before .before .before in
-    let f = s .before .before .before .before .before in
+    let w = c .before .before .before .before in
+    let i = w .before .before in
+    let f = i .before .before in
     let start = f .before .before .before .before .before .before in
-    let found = found-is _ _ (sym (f .find-phrase .ensures) ∙ s .before .before .before .i2 .given .1) in
+    let found = found-is _ _ (sym (f .find-phrase .ensures) ∙ i .i2 .given .1) in
     let size = w .width-of2 .ensures ∙ ap width (sym (start .pre .3 .1)) in
-    rw found (simp append-assoc (simp append-assoc at (both _ _ _ _ (s .put-source2 .ensures) (rw size at (c .before .before .put-bits2 .ensures)) (start .pre .0))))
+    rw found (simp append-assoc (simp append-assoc at (rw size at (c .before .before .put-place2 .ensures))))
 
 same-length-3 : tie.Need-same-length-3
 same-length-3 c = search needs
@@ -97,14 +90,12 @@ put-text-spec =
     (tie.spec
     find-phrase-requires
     enum-known-i
-    put-source-requires
     count-of-requires
     width-of-requires
-    put-bits-requires
+    put-place-requires
     enum-known-i-2
-    put-source-requires-2
     width-of-requires-2
-    put-bits-requires-2
+    put-place-requires-2
     enum-told
     put-new-requires
     same-length

@@ -6,8 +6,8 @@ use mathlib.Core.List.{List, [], _∷_}
 use mathlib.Core.Bool.{true, false, false≢true}
 use lib.ListN.{length, take, drop, getD, drop-of-length-le}
 use Rattle.causes.specs.declared.Cause.the-variants.{Byte}
-use Rattle.text.specs.Parts.{split, partsFrom, untilByte, same, all, comma, LF}
-use Rattle.text.proofs.Places.{part-last, parts-whole, parts-next}
+use Rattle.text.specs.Parts.{split, untilByte, same, all, comma, LF}
+use Rattle.text.proofs.Places.{part-last}
 use Rattle.transcript.specs.Statement.{input, inputs, print, printex}
 use Rattle.lines.specs.declared.Form.the-variants.{Guide as aGuide}
 use Rattle.lines.specs.declared.Head.{Head}
@@ -136,15 +136,9 @@ read-kind (as-if r o c) v = refl
 read-kind as-else v = refl
 read-kind as-fi v = refl
 
--- the first field of the line s ends at e
-pub role-by-kind : (s : List ℕ) (e : ℕ) (k : Kind) (r : Role) → isClean (lineOf aGuide s) ≡ true → e ≡ 0 + untilByte comma (drop 0 s)
-    → k ≡ kindOf (take e s) → r ≡ roleByKind k → r ≡ roleOf (lineOf aGuide s)
-role-by-kind s e k r c u d w =
-    let size : e - 0 ≡ e = omega arith in
-    let fields : split comma s ≡ take e s ∷ partsFrom comma (e + 1) s =
-    parts-whole comma s ∙ rw size at (parts-next comma s 0 e (omega arith) u) in
-    let said = read-kind (line-read-as aGuide s) c in
-    w ∙ ap roleByKind d ∙ rw fields at said
+pub role-by-kind : (s : List ℕ) (k : Kind) (r : Role) → isClean (lineOf aGuide s) ≡ true → k ≡ kindOf (getD (split comma s) 0 [])
+    → r ≡ roleByKind k → r ≡ roleOf (lineOf aGuide s)
+role-by-kind s k r c d w = w ∙ ap roleByKind d ∙ read-kind (line-read-as aGuide s) c
 
 -- where a statement or an if begins there is a line
 begins-in : (r : Role) → beginsBy r ≡ true → inBlock r ≡ true

@@ -56,8 +56,7 @@ fn role_in(line: &[u8]) -> Role
     requires { ⌜ isClean (lineOf aGuide (now line)) ≡ true ⌝ }
     ensures { λ r. ⌜ r ≡ roleOf (lineOf aGuide (now (line .entry))) ⌝ }
 {
-    let end = text::find_within(line, 0, b',');
-    role_of_kind(lines::kind_of(&line[..end]))
+    role_of_kind(lines::accepted_kind(line))
 }
 
 // The role of the first line of a block from the place a on.

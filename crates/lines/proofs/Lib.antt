@@ -10,3 +10,4 @@ pub mod FieldValues
 pub mod FieldBytes
 pub mod CleanLines
 pub mod CleanTexts
+pub mod Begins

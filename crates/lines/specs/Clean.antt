@@ -5,7 +5,7 @@ use mathlib.Core.List.{List}
 use mathlib.Core.Bool.{Bool, true, false}
 use Rattle.text.specs.Parts.{all}
 use Rattle.lines.specs.declared.Form.{Form}
-use Rattle.lines.specs.Line.{Line, phrase, says, ifLine, elseLine, fiLine, gotoLine, ifSkipLine, faulty}
+use Rattle.lines.specs.Line.{Line, phrase, says, ifLine, elseLine, fiLine, gotoLine, ifSkipLine, faulty, lineOf}
 use Rattle.lines.specs.Check.{linesOf}
 
 -- a line that by itself has none of the causes 3, 4 and 5
@@ -18,6 +18,10 @@ isClean fiLine = true
 isClean (gotoLine k) = true
 isClean (ifSkipLine t k) = true
 isClean (faulty c) = false
+
+-- bytes that in a guide or in a listing are such a line
+abbrev pub CleanLine : List ℕ → Type 0
+CleanLine s = (form : Form) × (isClean (lineOf form s) ≡ true)
 
 -- every line of a text is such a line
 abbrev pub Clean : Form → List ℕ → Type 0

@@ -1,4 +1,4 @@
--- The words of a line: the kind that a word names, the line of each kind, and the answer of the operator's reader.
+-- The words of a line: the kind that a word names, the line of each kind and where its fields begin, and the answer of the operator's reader.
 use Prim.Native.Nat.{ℕ}
 use mathlib.Core.List.{List}
 use mathlib.Core.Bool.{cond}
@@ -39,6 +39,19 @@ kindOf w =
     (cond (same w (bytes "else")) Else
     (cond (same w (bytes "fi")) Fi
     (cond (same w (bytes "goto")) Goto Unknown))))))))
+
+-- where the fields behind a kind's word begin: past the word and a comma
+abbrev pub fieldsAt : Kind → ℕ
+fieldsAt Phrase = 7
+fieldsAt Input = 6
+fieldsAt Inputs = 7
+fieldsAt Print = 6
+fieldsAt Printex = 8
+fieldsAt If = 3
+fieldsAt Else = 5
+fieldsAt Fi = 3
+fieldsAt Goto = 5
+fieldsAt Unknown = 1
 
 -- the line of a kind and the fields behind its word
 abbrev pub lineOfKind : Form → Kind → List (List ℕ) → Line

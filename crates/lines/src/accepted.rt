@@ -1,11 +1,13 @@
 // One line by itself that is known to have none of the causes 3, 4 and 5: its bytes and texts are not judged again.
 ghost use mathlib.Core.Path.{_≡_};
 ghost use mathlib.Core.Bool.{true};
-ghost use Rattle.text.specs.Parts.{comma, partsFrom};
+ghost use mathlib.Core.List.{[]};
+ghost use lib.ListN.{getD};
+ghost use Rattle.text.specs.Parts.{split, comma, partsFrom};
 ghost use Rattle.lines.specs.Line as line;
-ghost use Rattle.lines.specs.Words.{lineOfKind};
+ghost use Rattle.lines.specs.Words.{kindOf, fieldsAt, lineOfKind};
 ghost use Rattle.lines.specs.Answers.{headOf};
-ghost use Rattle.lines.specs.Clean.{isClean};
+ghost use Rattle.lines.specs.Clean.{isClean, CleanLine};
 use crate::Form;
 use crate::Head;
 use crate::fields::TestRead;
@@ -14,17 +16,58 @@ use crate::fields::count_fields;
 use crate::fields::field_at;
 use crate::fields::read_test;
 use crate::words::Kind;
-use crate::words::kind_of;
 use causes::Cause;
 use decimals::Natural;
+
+// The kind of such a line: its second byte tells it, and the sixth where two words begin alike.
+pub fn accepted_kind(s: &[u8]) -> Kind
+    requires { ⌜ CleanLine (now s) ⌝ }
+    ensures { λ r. ⌜ r ≡ kindOf (getD (split comma (now (s .entry))) 0 []) ⌝ }
+{
+    match s[1] {
+        b'h' => Kind::Phrase,
+        b'r' => if s[5] == b',' {
+            Kind::Print
+        } else {
+            Kind::Printex
+        },
+        b'n' => if s[5] == b',' {
+            Kind::Input
+        } else {
+            Kind::Inputs
+        },
+        b'f' => Kind::If,
+        b'l' => Kind::Else,
+        b'i' => Kind::Fi,
+        _ => Kind::Goto,
+    }
+}
+
+// Where the fields behind a kind's word begin.
+fn fields_at(kind: Kind) -> usize
+    ensures { λ r. ⌜ r ≡ fieldsAt kind ⌝ }
+{
+    match kind {
+        Kind::Phrase => 7,
+        Kind::Input => 6,
+        Kind::Inputs => 7,
+        Kind::Print => 6,
+        Kind::Printex => 8,
+        Kind::If => 3,
+        Kind::Else => 5,
+        Kind::Fi => 3,
+        Kind::Goto => 5,
+        Kind::Unknown => 1,
+    }
+}
 
 // The head of such a line.
 pub fn accepted_line(form: Form, s: &[u8]) -> Head
     requires { ⌜ isClean (line.lineOf form (now s)) ≡ true ⌝ }
     ensures { λ r. ⌜ r ≡ headOf (line.lineOf form (now (s .entry))) ⌝ }
 {
-    let e = text::find(s, 0, b',');
-    accepted_fields(form, kind_of(&s[..e]), s, e + 1)
+    let kind = accepted_kind(s);
+    accepted_fields(form, kind, s, fields_at(kind))
 }
 
 // A line of this kind, whose fields behind the kind begin at a.

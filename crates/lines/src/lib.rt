@@ -1,20 +1,20 @@
 // The lines of a guide and of a listing: one line by itself, in code too; and the check over the lines, as definitions with their
 // laws. The code of the check is in crate check_lines.
 // `read_line` takes any bytes and answers the line's kind with its numbers, or its cause 3, 4 or 5;
-// `accepted_line` does the same for a line that is known to have none of them; `kind_of` answers the kind that a word names.
+// `accepted_line` does the same for a line that is known to have none of them, and `accepted_kind` answers such a line's kind alone.
 // Each contract says the whole answer by a definition: specs/Line.antt what a line is, specs/Check.antt what the check finds.
 mod accepted;
 mod fields;
 mod line;
 mod words;
 
+pub use accepted::accepted_kind;
 pub use accepted::accepted_line;
 use causes::Cause;
 use causes::Refusal;
 pub use line::read_line;
 use transcript::Test;
 pub use words::Kind;
-pub use words::kind_of;
 
 // The two texts that are read line by line.
 pub enum Form {

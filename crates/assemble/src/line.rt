@@ -8,6 +8,7 @@ ghost use Rattle.text.specs.Parts.{split, comma};
 ghost use Rattle.phrases.specs.Lookup.{phrasesIn};
 ghost use Rattle.phrases.specs.Index.{Listed};
 ghost use Rattle.plate.specs.Writing.{instructionsBits};
+ghost use Rattle.lines.specs.Answers.{Heads};
 ghost use Rattle.assemble.specs.LineCode.{headCode, countBy, skipBy};
 use lines::Head;
 
@@ -77,7 +78,7 @@ pub fn put(
     text: &[u8],
     own: usize,
 ) -> usize
-    requires { ⌜ (length (now out) ≤ 2953) × Listed (now index) (now book) (now text) own ⌝ }
+    requires { ⌜ (length (now out) ≤ 2953) × Listed (now index) (now book) (now text) own × Heads head (now line) ⌝ }
     ensures { λ r. ⌜ (r, bytesBits (now (out .exit))) ≡ poured at (instructionsBits (phrasesIn (now (book .entry)) (now (text .entry)) own) (headCode skip head (split comma (now (line .entry))))) (bytesBits (now (out .entry))) ⌝ }
 {
     match head {

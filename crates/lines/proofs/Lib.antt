@@ -11,3 +11,4 @@ pub mod FieldBytes
 pub mod CleanLines
 pub mod CleanTexts
 pub mod Begins
+pub mod LineTexts

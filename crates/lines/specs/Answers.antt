@@ -1,5 +1,6 @@
 -- What the code answers for a line, and for a whole text.
 use Prim.Native.Nat.{ℕ}
+use mathlib.Core.Path.{_≡_}
 use mathlib.Core.List.{List}
 use mathlib.Core.Bool.{cond}
 use lib.ListN.{length}
@@ -23,6 +24,7 @@ use Rattle.lines.specs.Line.{
   gotoLine,
   ifSkipLine,
   faulty,
+  lineOf,
 }
 use Rattle.lines.specs.Check.{Seen, nothingSeen, checkFrom, mostBytes, linesOf}
 
@@ -39,6 +41,10 @@ headOf fiLine = head.Fi
 headOf (gotoLine k) = head.Goto k
 headOf (ifSkipLine test k) = head.IfSkip test k
 headOf (faulty cause) = head.Faulty cause
+
+-- the head of the line s in a guide or in a listing
+abbrev pub Heads : Head → List ℕ → Type 0
+Heads h s = (form : Form) × (h ≡ headOf (lineOf form s))
 
 -- what the lines of a text hold; 2 before the lines
 unfoldable pub seenIn : Form → List Text → List ℕ → Result Seen

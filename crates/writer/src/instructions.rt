@@ -1,7 +1,7 @@
 // Instructions, each a 3-bit code and its fields.
 ghost use mathlib.Core.Path.{_≡_};
 ghost use mathlib.Core.List.{[], _++_};
-ghost use Prim.Native.Nat.{_-_, _≤_};
+ghost use Prim.Native.Nat.{_≤_};
 ghost use lib.ListN.{length, drop, getD};
 ghost use Rattle.output.specs.Pour.{poured};
 ghost use Rattle.bits.specs.Bits.{bitsOf, bytesBits};
@@ -57,35 +57,25 @@ pub fn put_input(
     put_text(out, at, 8, register % 32, text, index, book, own, count)
 }
 
-// How many options more than two an `inputs` line has, from field 3 on.
-fn options_less_two(line: &[u8]) -> usize
-    ensures { λ r. ⌜ r ≡ length (drop 3 (split comma (now (line .entry)))) - 2 ⌝ }
-{
-    let n = text::count_parts(line, b',');
-    if n < 5 {
-        return 0;
-    }
-    n - 5
-}
-
-// A question with options: an `inputs` line has its text in field 2, and the options from field 3 on.
+// A question with options: an `inputs` line has its text in field 2, and the options from field 3 on, two or more.
 pub fn put_inputs(
     out: &mut [u8],
     at: usize,
     register: usize,
+    options: usize,
     line: &[u8],
     index: &[u32],
     book: &[u8],
     own: &[u8],
     count: usize,
 ) -> usize
-    requires { ⌜ (length (now out) ≤ 2953) × Listed (now index) (now book) (now own) count ⌝ }
+    requires { ⌜ (length (now out) ≤ 2953) × Listed (now index) (now book) (now own) count × (options ≡ length (drop 3 (split comma (now line)))) × (2 ≤ options) ⌝ }
     ensures { λ r. ⌜ (r, bytesBits (now (out .exit))) ≡ poured at (statementBits (phrasesIn (now (book .entry)) (now (own .entry)) count) (inputs register (getD (split comma (now (line .entry))) 2 []) (drop 3 (split comma (now (line .entry)))))) (bytesBits (now (out .entry))) ⌝ }
 {
     let front = 32 + register % 32;
     let question = text::part(line, b',', 2);
     let mut end = put_text(out, at, 8, front, question, index, book, own, count);
-    end = bits::put_bits(out, end, 3, options_less_two(line));
+    end = bits::put_bits(out, end, 3, options - 2);
     put_texts(out, end, line, 3, index, book, own, count)
 }
 

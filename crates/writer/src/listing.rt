@@ -7,6 +7,7 @@ ghost use Rattle.bits.specs.Bits.{bytesBits};
 ghost use Rattle.text.specs.Parts.{split, comma};
 ghost use Rattle.phrases.specs.Lookup.{phrasesIn};
 ghost use Rattle.phrases.specs.Index.{Listed};
+ghost use Rattle.lines.specs.Answers.{Heads};
 ghost use Rattle.writer.specs.Listing.{lineBits};
 use crate::instructions::put_goto;
 use crate::instructions::put_if;
@@ -17,6 +18,7 @@ use crate::instructions::put_printex;
 use lines::Head;
 
 // A listing line's instruction, by the line's head and its fields. A phrase's line has none, nor has a line that no listing has.
+// The text of a print begins behind `print,`, and that of a verdict behind `printex,`.
 pub fn put_line(
     out: &mut [u8],
     at: usize,
@@ -27,7 +29,7 @@ pub fn put_line(
     own: &[u8],
     count: usize,
 ) -> usize
-    requires { ⌜ (length (now out) ≤ 2953) × Listed (now index) (now book) (now own) count ⌝ }
+    requires { ⌜ (length (now out) ≤ 2953) × Listed (now index) (now book) (now own) count × Heads head (now line) ⌝ }
     ensures { λ r. ⌜ (r, bytesBits (now (out .exit))) ≡ poured at (lineBits (phrasesIn (now (book .entry)) (now (own .entry)) count) head (split comma (now (line .entry)))) (bytesBits (now (out .entry))) ⌝ }
 {
     match head {
@@ -41,12 +43,19 @@ pub fn put_line(
             own,
             count,
         ),
-        Head::Inputs {
+        Head::Inputs { register, options } => put_inputs(
+            out,
+            at,
             register,
-            options: _,
-        } => put_inputs(out, at, register, line, index, book, own, count),
-        Head::Print => put_print(out, at, text::part(line, b',', 1), index, book, own, count),
-        Head::Printex => put_printex(out, at, text::part(line, b',', 1), index, book, own, count),
+            options,
+            line,
+            index,
+            book,
+            own,
+            count,
+        ),
+        Head::Print => put_print(out, at, &line[6..], index, book, own, count),
+        Head::Printex => put_printex(out, at, &line[8..], index, book, own, count),
         Head::Goto { skip } => put_goto(out, at, skip),
         Head::IfSkip { test, skip } => put_if(out, at, test, skip),
         _ => at,

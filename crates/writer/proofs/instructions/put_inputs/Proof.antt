@@ -14,8 +14,8 @@ part-requires c κs = search needs
 put-text-requires : tie.Need-put-text-requires
 put-text-requires c κs = search needs
 
-options-less-two-requires : tie.Need-options-less-two-requires
-options-less-two-requires c κs = search needs
+sub-put-bits : tie.Need-sub-put-bits
+sub-put-bits c = search needs
 
 put-bits-requires : tie.Need-put-bits-requires
 put-bits-requires c κs = search needs
@@ -29,10 +29,10 @@ same-length c = search needs
 returns : tie.Need-returns
 returns c =
     let n = c .before .before .before .before .before .before in
-    let t = n .before .before .before .before .before in
+    let t = n .before .before .before .before in
     let start = t .before .before .before .before .before .before .before .before in
     let question = rw (t .before .before .part .ensures, code-register 1 (start .args .register)) at (t .put-text .ensures) in
-    let number = rw (n .before .options-less-two .ensures) at (n .put-bits .ensures) in
+    let number = rw (start .pre .2) at (n .put-bits .ensures) in
     let front = both _ _ _ _ question number (start .pre .0) in
     both _ _ _ _ front (c .before .before .put-texts .ensures) (start .pre .0)
 
@@ -43,7 +43,7 @@ put-inputs-spec =
     add-front
     part-requires
     put-text-requires
-    options-less-two-requires
+    sub-put-bits
     put-bits-requires
     put-texts-requires
     same-length

@@ -1,7 +1,9 @@
 -- `put_line` meets its contract: each head has its writer, or no bits.
-use mathlib.Core.Path.{refl}
+use mathlib.Core.Path.{refl, sym, _∙_}
 use borrow.Author.Needs.{needs}
 use Rattle.phrases.specs.Lookup.{phrasesIn}
+use Rattle.lines.proofs.FieldPlaces.{whole-rest}
+use Rattle.lines.proofs.LineTexts.{texts}
 use Rattle.writer.proofs.LineBits.{line-writes, line-silent}
 use Rattle.writer.proofs.listing.put_line.Statement.{statement}
 use Rattle.writer.proofs.listing.put_line.Tie as tie
@@ -19,13 +21,21 @@ enum-known-head-2 : tie.Need-enum-known-head-2
 enum-known-head-2 c = search needs
 
 put-inputs-requires : tie.Need-put-inputs-requires
-put-inputs-requires c κs = search needs
+put-inputs-requires c κs = let start = c .before .before .before .before .before .before .before .before .before in
+    let t = texts _ _ _ (start .pre .2) (c .before .before .head2 .given .1) in
+    (search needs, start .pre .1, t .0, t .1)
 
 enum-told : tie.Need-enum-told
 enum-told c = search needs
 
-part-requires-2 : tie.Need-part-requires-2
-part-requires-2 c κs = search needs
+sub-put-print : tie.Need-sub-put-print
+sub-put-print c = texts _ _ _ (c .before .before .before .before .before .before .before .before .pre .2) (c .before .enum-told .given .1) .1
+
+part-put-print-start : tie.Need-part-put-print-start
+part-put-print-start c = texts _ _ _ (c .before .before .before .before .before .before .before .before .pre .2) (c .before .enum-told .given .1) .1
+
+part-put-print-end : tie.Need-part-put-print-end
+part-put-print-end c = search needs
 
 put-print-requires : tie.Need-put-print-requires
 put-print-requires c κs = search needs
@@ -33,8 +43,14 @@ put-print-requires c κs = search needs
 enum-told-2 : tie.Need-enum-told-2
 enum-told-2 c = search needs
 
-part-requires-3 : tie.Need-part-requires-3
-part-requires-3 c κs = search needs
+sub-put-printex : tie.Need-sub-put-printex
+sub-put-printex c = texts _ _ _ (c .before .before .before .before .before .before .before .before .pre .2) (c .before .enum-told2 .given .1) .1
+
+part-put-printex-start : tie.Need-part-put-printex-start
+part-put-printex-start c = texts _ _ _ (c .before .before .before .before .before .before .before .before .pre .2) (c .before .enum-told2 .given .1) .1
+
+part-put-printex-end : tie.Need-part-put-printex-end
+part-put-printex-end c = search needs
 
 put-printex-requires : tie.Need-put-printex-requires
 put-printex-requires c κs = search needs
@@ -67,13 +83,21 @@ same-length-3 : tie.Need-same-length-3
 same-length-3 c = search needs
 
 returns-3 : tie.Need-returns-3
-returns-3 c = line-writes _ _ _ _ (c .before .before .before .before .before .enum-told .given .1) _ _ _ _ refl (rw (c .before .before .before .part2 .ensures) at (c .before .before .put-print .ensures))
+returns-3 c =
+    let start = c .before .before .before .before .before .before .before .before .before .before .before .before in
+    let e = c .before .before .before .before .before .enum-told .given .1 in
+    let t = whole-rest (start .args .line .now) 6 ∙ sym (texts _ _ _ (start .pre .2) e .0) in
+    line-writes _ _ _ _ e _ _ _ _ refl (rw t at (c .before .before .put-print .ensures))
 
 same-length-4 : tie.Need-same-length-4
 same-length-4 c = search needs
 
 returns-4 : tie.Need-returns-4
-returns-4 c = line-writes _ _ _ _ (c .before .before .before .before .before .enum-told2 .given .1) _ _ _ _ refl (rw (c .before .before .before .part3 .ensures) at (c .before .before .put-printex .ensures))
+returns-4 c =
+    let start = c .before .before .before .before .before .before .before .before .before .before .before .before in
+    let e = c .before .before .before .before .before .enum-told2 .given .1 in
+    let t = whole-rest (start .args .line .now) 8 ∙ sym (texts _ _ _ (start .pre .2) e .0) in
+    line-writes _ _ _ _ e _ _ _ _ refl (rw t at (c .before .before .put-printex .ensures))
 
 same-length-5 : tie.Need-same-length-5
 same-length-5 c = search needs
@@ -102,10 +126,14 @@ put-line-spec =
     enum-known-head-2
     put-inputs-requires
     enum-told
-    part-requires-2
+    sub-put-print
+    part-put-print-start
+    part-put-print-end
     put-print-requires
     enum-told-2
-    part-requires-3
+    sub-put-printex
+    part-put-printex-start
+    part-put-printex-end
     put-printex-requires
     enum-known-head-3
     put-goto-requires

@@ -15,6 +15,7 @@ large    512 instructions, 192 inputs of 8 options and 320 prints, which is all 
          240 such phrases, behind them 16 of one letter, which the guide uses, since longer ones do not fit a guide
 spelled  51 prints of 64 bytes and 2 inputs, none a phrase of the full book of 256 phrases: a plate of 2,953 bytes
 book     an empty guide with that full book: the check of the book alone
+phrases  512 instructions of every kind, whose texts are phrases of 8 bytes of a book of 40
 lines    512 lines print,a, and their plate, empty book
 plate    the plate of 2,953 bytes of spelled texts, empty book";
 
@@ -25,7 +26,7 @@ pub struct Size {
     pub calls: &'static [Call],
 }
 
-pub const ALL: [Size; 8] = [
+pub const ALL: [Size; 9] = [
     Size { name: "small", subject: small, calls: &Call::ALL },
     Size { name: "middle", subject: middle, calls: &Call::ALL },
     Size { name: "large", subject: guide, calls: &[Call::Translate, Call::Walk] },
@@ -36,6 +37,7 @@ pub const ALL: [Size; 8] = [
     },
     Size { name: "spelled", subject: spelled_with_book, calls: &Call::ALL },
     Size { name: "book", subject: book, calls: &[Call::Translate] },
+    Size { name: "phrases", subject: phrases, calls: &Call::ALL },
     Size { name: "lines", subject: short, calls: &Call::ALL },
     Size { name: "plate", subject: plate, calls: &[Call::WritePlate, Call::ReadPlate, Call::Run] },
 ];
@@ -78,6 +80,10 @@ fn spelled_with_book() -> Subject {
 
 fn book() -> Subject {
     Subject::of_guide(Vec::new(), long_book(MAX_BOOK), Vec::new())
+}
+
+fn phrases() -> Subject {
+    Subject::of_guide(series(MAX_INSTRUCTIONS), short_book(), zeros())
 }
 
 fn short() -> Subject {

@@ -1,7 +1,8 @@
 // What each statement does to the machine and to the transcript.
 // A statement takes the machine by value and returns it, with the outcome and the place where the transcript ends; the registers are lent
 // to it. Its contract says the whole answer, the registers and the whole buffer by `perform` (transcript/specs/Perform.antt): a line is stored
-// as far as the buffer goes, and counted to its end. The C line of inputs is written before, in pieces, and `choose` then takes the answer.
+// as far as the buffer goes, and counted to its end. The C line of inputs is written before, in pieces, and `choose` then takes the answer;
+// a caller that writes another line itself then calls `answer` or `leave`.
 // Any text, any answers and any buffer will do. A register is below 32, and one step more must still fit a 64-bit number.
 use causes::Outcome;
 use machine::stepped;
@@ -18,12 +19,12 @@ ghost use lib.ListN.{length};
 ghost use lib.IntN.{ℤ};
 ghost use Rattle.transcript.specs.Statement.{input, print, printex};
 ghost use Rattle.transcript.specs.State.{step};
-ghost use Rattle.transcript.specs.Perform.{answer, isOption, perform};
+ghost use Rattle.transcript.specs.Perform.{isOption, perform};
 ghost use Rattle.transcript.specs.Perform as spec;
 ghost use Rattle.transcript.specs.Machine.{machineState, endingBy, laid, performed};
 
 // A statement left after its step, with no answer taken, no register set and nothing more written.
-fn leave(m: Machine, outcome: Outcome, end: usize) -> Performed
+pub fn leave(m: Machine, outcome: Outcome, end: usize) -> Performed
     requires { ⌜ m .steps < 18446744073709551615 ⌝ }
     ensures { λ r. ⌜ ((registers answers : List ℤ) (out : List ℕ) → performed registers answers r out ≡ laid end (endingBy outcome (step (machineState registers answers m))) out) ⌝ }
     ensures { λ r. ⌜ (r .machine .taken ≡ m .taken) × (r .machine .steps ≡ m .steps + 1) ⌝ }
@@ -46,7 +47,7 @@ fn take_answer(
     m: Machine,
 ) -> Performed
     requires { ⌜ (register < 32) × (m .taken < length (now answers)) × (m .steps < 18446744073709551615) ⌝ }
-    ensures { λ r. ⌜ performed (now (registers .exit)) (now (answers .entry)) r (now (out .exit)) ≡ laid at (answer register (machineState (now (registers .entry)) (now (answers .entry)) m .left) (step (machineState (now (registers .entry)) (now (answers .entry)) m))) (now (out .entry)) ⌝ }
+    ensures { λ r. ⌜ performed (now (registers .exit)) (now (answers .entry)) r (now (out .exit)) ≡ laid at (spec.answer register (machineState (now (registers .entry)) (now (answers .entry)) m .left) (step (machineState (now (registers .entry)) (now (answers .entry)) m))) (now (out .entry)) ⌝ }
     ensures { λ r. ⌜ (r .machine .taken ≡ m .taken + 1) × (r .machine .steps ≡ m .steps + 1) ⌝ }
 {
     let taken = m.taken;
@@ -73,6 +74,25 @@ fn is_option(v: i32, options: usize) -> bool
     false
 }
 
+// input, once its Q line is written: the answer, if there is one. With no answer left it waits.
+pub fn answer(
+    out: &mut [u8],
+    at: usize,
+    registers: &mut [i32; 32],
+    register: usize,
+    answers: &[i32],
+    m: Machine,
+) -> Performed
+    requires { ⌜ (register < 32) × (m .steps < 18446744073709551615) ⌝ }
+    ensures { λ r. ⌜ performed (now (registers .exit)) (now (answers .entry)) r (now (out .exit)) ≡ laid at (spec.answer register (machineState (now (registers .entry)) (now (answers .entry)) m .left) (step (machineState (now (registers .entry)) (now (answers .entry)) m))) (now (out .entry)) ⌝ }
+    ensures { λ r. ⌜ (r .machine .steps ≡ m .steps + 1) × (m .taken ≤ length (now (answers .entry)) → r .machine .taken ≤ length (now (answers .entry))) ⌝ }
+{
+    if m.taken < answers.len() {
+        return take_answer(out, at, registers, register, answers, m);
+    }
+    leave(m, Outcome::Waiting, at)
+}
+
 // input: a question, and then its answer. With no answer left it waits.
 pub fn ask(
     out: &mut [u8],
@@ -88,10 +108,7 @@ pub fn ask(
     ensures { λ r. ⌜ (r .machine .steps ≡ m .steps + 1) × (m .taken ≤ length (now (answers .entry)) → r .machine .taken ≤ length (now (answers .entry))) ⌝ }
 {
     let end = put_asked(out, at, text);
-    if m.taken < answers.len() {
-        return take_answer(out, end, registers, register, answers, m);
-    }
-    leave(m, Outcome::Waiting, end)
+    answer(out, end, registers, register, answers, m)
 }
 
 // inputs, once its C line is written: the answer, taken if it is the place of an option. With no answer left it waits.

@@ -51,9 +51,6 @@ module _ (plate : List ℕ) (bit : ℕ) (f : Field) {m : Read Text} (e : sizeRea
   pub size-got : {size next : ℕ} → f ≡ fields.Is size next → got (charactersIn size (drop bit (bytesBits plate))) (placeAt plate next) ≡ m
   size-got h = answered (sizeRead plate bit) refusalOf e h
 
-  pub size-stopped : {r s : Refusal} → f ≡ fields.Refused r → s ≡ refusalOf f → stopped (s .cause) (s .place) ≡ m
-  size-stopped h k = refused (sizeRead plate bit) refusalOf e h k refl
-
 module _ (plate : List ℕ) (f : TestRead) {m : Read Test} (e : testRead plate f ≡ m) where
   pub test-got : {t : Test} {next : ℕ} → f ≡ tests.Is t next → got t (placeAt plate next) ≡ m
   test-got h = answered (testRead plate) testRefusal e h

@@ -13,6 +13,10 @@ module _ {A : Type 0} where
   behind-none (got xs q) = refl
   behind-none (stopped cause bit) = refl
 
+  pub behind-behind : (front more : List A) (m : Read (List A)) → behind front (behind more m) ≡ behind (front ++ more) m
+  behind-behind front more (got xs q) = ap (λ l. got l q) (sym (append-assoc front more xs))
+  behind-behind front more (stopped cause bit) = refl
+
   -- one value, and what is read behind it
   pub behind-one : (front : List A) (a : A) (r : Reader (List A)) (q : Place)
       → behind front ((r >>= λ xs. return (a ∷ xs)) q) ≡ behind (front ++ (a ∷ [])) (r q)

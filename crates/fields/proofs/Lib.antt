@@ -1,10 +1,9 @@
 pub mod Onward
 pub mod Behind
 pub mod Characters
-pub mod CharacterBits
-pub mod Copied
+pub mod Copies
 pub mod Answers
 pub mod SignedRead
 pub mod Ops
-pub mod Threes
-pub mod Eights
+pub mod Cuts
+pub mod TextCopy

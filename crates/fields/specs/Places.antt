@@ -1,15 +1,16 @@
 -- What the code's answers stand for: a place of a plate by its bit, and the fields that are read there.
-use Prim.Native.Nat.{ℕ, zero, suc, _+_, _*_, _-_, _≤_, _<_}
+use Prim.Native.Nat.{ℕ, zero, suc}
 use mathlib.Core.Path.{_≡_}
 use mathlib.Core.List.{List, [], _∷_}
-use mathlib.Core.Bool.{Bool, true}
+use mathlib.Core.Bool.{Bool}
 use lib.ListN.{length, take, drop}
 use lib.IntN.{ℤ}
 use Rattle.transcript.specs.declared.Test.{Test}
 use Rattle.causes.specs.declared.Refusal.{Refusal}
+use Rattle.causes.specs.declared.Cause.{Cause}
 use Rattle.causes.specs.declared.Cause.the-variants.{PlateEnds}
 use Rattle.bits.specs.Bits.{valueOf, bytesBits}
-use Rattle.text.specs.Text.{Text, textByte}
+use Rattle.text.specs.Text.{Text}
 use Rattle.plate.specs.Reading.{Place, Read, got, stopped, Reader}
 use Rattle.plate.specs.Plate.{characters}
 use Rattle.fields.specs.declared.Field as field
@@ -58,11 +59,6 @@ unfoldable pub charactersIn : ℕ → List Bool → Text
 charactersIn zero bs = []
 charactersIn (suc n) bs = valueOf (take 7 bs) ∷ charactersIn n (drop 7 bs)
 
--- n bytes of a text stand at a bit
-pub record PlainAt (plate : List ℕ) (bit n : ℕ) : Type 0 where
-  pub room : n * 7 ≤ length plate * 8 - bit
-  pub plain : (k : ℕ) → k < n → textByte (valueOf (take 7 (drop (bit + k * 7) (bytesBits plate)))) ≡ true
-
 -- "characters, ETX": all that stand at a place
 abbrev pub untilETX : Reader Text
 untilETX p = characters (length (p .left)) p
@@ -81,3 +77,12 @@ endWith n (stopped cause bit) = stopped cause bit
 abbrev pub valuesOf : {A : Type 0} → Read (List A) → List A
 valuesOf (got xs q) = xs
 valuesOf (stopped cause bit) = []
+
+-- what is read is known to be no refusal
+pub record Known {A : Type 0} (m : Read A) : Type 0 where
+  pub good : {cause : Cause} {bit : ℕ} → stopped cause bit ≡ m → ⊥
+
+-- how many values were read, one behind the other
+abbrev pub countRead : {A : Type 0} → Read (List A) → Read ℕ
+countRead (got xs q) = got (length xs) q
+countRead (stopped cause bit) = stopped cause bit

@@ -3,19 +3,19 @@
 // what a reader of crate plate's specs/Plate.antt finds there: the value, the bit behind it, and in a refusal the cause and its bit.
 // Asked of a caller: a plate of at most 2,953 bytes.
 mod constant;
-mod eight;
+mod copying;
 mod numbers;
 mod refusals;
 mod spelling;
 mod tests;
-mod three;
 
 use causes::Refusal;
 pub use constant::read_constant;
+pub use copying::copy_characters;
+pub use copying::copy_each;
 pub use numbers::read_field;
 pub use numbers::read_plain;
 pub use numbers::read_skip;
-pub use spelling::put_characters;
 pub use spelling::read_size;
 pub use tests::read_test;
 use transcript::Test;
@@ -36,4 +36,10 @@ pub enum ConstantRead {
 pub enum TestRead {
     Is(Test, usize),
     Refused(Refusal),
+}
+
+// What was copied from a plate into a buffer: where its bytes end in the buffer, and the bit behind it on the plate.
+pub struct Copied {
+    pub end: usize,
+    pub next: usize,
 }

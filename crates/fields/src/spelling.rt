@@ -2,24 +2,20 @@
 ghost use mathlib.Core.Path.{_≡_};
 ghost use mathlib.Core.Bool.{_||_};
 ghost use Prim.Native.Nat.{_≤_};
-ghost use lib.ListN.{length, take, drop};
+ghost use lib.ListN.{length};
 ghost use lib.Dec.{eqb};
-ghost use Rattle.output.specs.Pour.{poured};
-ghost use Rattle.bits.specs.Bits.{valueOf, bytesBits};
 ghost use Rattle.text.specs.Text.{textByte};
 ghost use Rattle.plate.specs.Writing.{ETX};
 ghost use Rattle.plate.specs.Plate.{character};
-ghost use Rattle.fields.specs.Places.{placeAt, fieldRead, sizeRead, untilETX, charactersIn};
+ghost use Rattle.fields.specs.Places.{placeAt, fieldRead, sizeRead, untilETX};
 use crate::Field;
-use crate::eight::plain_run;
 use crate::numbers::read_plain;
-use crate::three::put_three;
-use bits::Number;
+use bits::Wide;
 use causes::Cause;
 use causes::Refusal;
 
 // Whether a number is a byte of a text.
-pub fn is_plain(code: usize) -> bool
+fn is_plain(code: usize) -> bool
     ensures { λ r. ⌜ r ≡ textByte code ⌝ }
 {
     if code < 32 {
@@ -59,19 +55,13 @@ fn read_character(plate: &[u8], at: usize) -> Field
     })
 }
 
-// How many characters stand before ETX, and the bit behind it: eight characters at once, and those left one by one.
-pub fn read_size(plate: &[u8], at: usize) -> Field
+// How many characters stand before ETX, and the bit behind it: one by one.
+fn last_size(plate: &[u8], at: usize) -> Field
     requires { ⌜ length (now plate) ≤ 2953 ⌝ }
     ensures { λ r. ⌜ sizeRead (now (plate .entry)) at r ≡ untilETX (placeAt (now (plate .entry)) at) ⌝ }
 {
     let mut size = 0;
     let mut bit = at;
-    let mut n = 8;
-    while n == 8 {
-        n = plain_run(plate, bit);
-        size += n;
-        bit += n * 7;
-    }
     loop {
         let field = read_character(plate, bit);
         let Field::Is(code, next) = field else {
@@ -85,62 +75,38 @@ pub fn read_size(plate: &[u8], at: usize) -> Field
     }
 }
 
-// The number that up to 7 bits from a bit on are: fewer at the plate's end.
-fn character_at(plate: &[u8], bit: usize) -> u8
-    ensures { λ r. ⌜ r ≡ valueOf (take 7 (drop bit (bytesBits (now (plate .entry))))) ⌝ }
+// The same, eight characters read at once; one by one where fewer than eight bytes are left.
+pub fn read_size(plate: &[u8], at: usize) -> Field
+    requires { ⌜ length (now plate) ≤ 2953 ⌝ }
+    ensures { λ r. ⌜ sizeRead (now (plate .entry)) at r ≡ untilETX (placeAt (now (plate .entry)) at) ⌝ }
 {
-    if let Number::Is(value) = bits::read_number(plate, bit, 7) {
-        return value as u8;
-    }
-    last_bits(plate, bit)
-}
-
-// The same, with as many bits as there are.
-fn last_bits(plate: &[u8], bit: usize) -> u8
-    ensures { λ r. ⌜ r ≡ valueOf (take 7 (drop bit (bytesBits (now (plate .entry))))) ⌝ }
-{
-    let mut width = 7;
-    while 0 < width {
-        if let Number::Is(value) = bits::read_number(plate, bit, width) {
-            return value as u8;
+    let mut size = 0;
+    let mut bit = at;
+    loop {
+        let Wide::Is(eight) = bits::read_eight(plate, bit) else {
+            let last = last_size(plate, bit);
+            let Field::Is(more, next) = last else {
+                return last;
+            };
+            return Field::Is(size + more, next);
+        };
+        let mut left = eight;
+        let mut n: usize = 0;
+        while n < 8 {
+            let code = left / 562949953421312;
+            if code == 3 {
+                return Field::Is(size, bit + 7);
+            }
+            if !is_plain(code) {
+                return Field::Refused(Refusal {
+                    cause: Cause::Spelling,
+                    place: bit,
+                });
+            }
+            size += 1;
+            bit += 7;
+            left = left % 562949953421312 * 128;
+            n += 1;
         }
-        width -= 1;
     }
-    0
-}
-
-// So many characters from a bit on, as bytes, one by one.
-pub fn put_each(plate: &[u8], bit: usize, size: usize, out: &mut [u8], at: usize) -> usize
-    requires { ⌜ length (now plate) ≤ 2953 ⌝ }
-    ensures { λ r. ⌜ (r, now (out .exit)) ≡ poured at (charactersIn size (drop bit (bytesBits (now (plate .entry))))) (now (out .entry)) ⌝ }
-{
-    let mut end = at;
-    let mut place = bit;
-    let mut i = 0;
-    while i < size {
-        end = text_out::put_byte(out, end, character_at(plate, place));
-        place = output::sum(place, 7);
-        i += 1;
-    }
-    end
-}
-
-// So many characters from a bit on, as bytes: three at once, where the buffer has room for them.
-pub fn put_characters(plate: &[u8], bit: usize, size: usize, out: &mut [u8], at: usize) -> usize
-    requires { ⌜ length (now plate) ≤ 2953 ⌝ }
-    ensures { λ r. ⌜ (r, now (out .exit)) ≡ poured at (charactersIn size (drop bit (bytesBits (now (plate .entry))))) (now (out .entry)) ⌝ }
-{
-    if out.len() <= at {
-        return output::sum(at, size);
-    }
-    let threes = output::least(size, out.len() - at) / 3;
-    let mut end = at;
-    let mut place = bit;
-    let mut i = 0;
-    while i < threes {
-        end = put_three(plate, place, out, end);
-        place = output::sum(place, 21);
-        i += 1;
-    }
-    put_each(plate, place, size - threes * 3, out, end)
 }

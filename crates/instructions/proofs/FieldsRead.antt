@@ -13,31 +13,19 @@ use Rattle.plate.specs.Reading.{Place, Read, got, stopped, number, judged, many
 use Rattle.plate.specs.Program.{statement}
 use Rattle.plate.specs.Plate.{text, options, fieldsBy}
 use Rattle.fields.specs.Places.{endWith, valuesOf}
-use Rattle.fields.proofs.Onward.{then-got, then-stopped}
-use Rattle.plate_texts.proofs.Ended.{ended-stopped, ended-map}
-
--- ---- values of which only the end is known
-
-module _ {A : Type 0} where
-  pub ended-got : (n v : ℕ) (s : Place) (m : Read (List A)) → got v s ≡ endWith n m → got (valuesOf m) s ≡ m
-  ended-got n v s (got ts q) e = let same : s ≡ q = cc in ap (got ts) same
-  ended-got n v s (stopped cause bit) e = let z : _≡_ {A = ℕ} 0 1 = cc in absurd (omega arith)
+use Rattle.fields.proofs.Onward.{then-stopped}
+use Rattle.plate_texts.proofs.Ended.{ended-got, ended-stopped, ended-map}
+use Rattle.plate_texts.proofs.OptionsRead.{options-read}
 
 module _ (c : Phrases) (p q : Place) (k : ℕ) (e : got k q ≡ judged (number 3) (λ k. leb k 6) Unused p) where
   abbrev all : Read (List Text)
   all = many (λ j. text c) (k + 2) q
 
-  pub options-read : all ≡ options c p
-  unfolding options
-  options-read =
-      let two : k + 2 ≡ suc (suc k) = omega arith in
-      ap (λ n. many (λ j. text c) n q) two ∙ then-got _ (λ k. many (λ j. text c) (suc (suc k))) p e
-
   pub options-got : (v : ℕ) (s : Place) → got v s ≡ endWith (k + 2) all → got (valuesOf all) s ≡ options c p
-  options-got v s h = ended-got (k + 2) v s all h ∙ options-read
+  options-got v s h = ended-got (k + 2) v s all h ∙ options-read c p q k e
 
   pub options-stopped : {cause : Cause} {bit : ℕ} → stopped cause bit ≡ endWith (k + 2) all → stopped cause bit ≡ options c p
-  options-stopped h = ended-stopped (k + 2) all h ∙ options-read
+  options-stopped h = ended-stopped (k + 2) all h ∙ options-read c p q k e
 
 pub options-refused : (c : Phrases) (p : Place) {cause : Cause} {bit : ℕ} → stopped cause bit ≡ judged (number 3) (λ k. leb k 6) Unused p
     → stopped cause bit ≡ options c p

@@ -1,2 +1,3 @@
-pub mod InstructionAnswers
 pub mod FieldsRead
+pub mod HeadRead
+pub mod Headed

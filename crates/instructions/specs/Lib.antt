@@ -1,1 +1,1 @@
-pub mod InstructionsAt
+pub mod Heads

@@ -1,46 +1,39 @@
 // The instructions of a plate, read at a bit. The one reader of instructions, for the run and for the converter.
-// Every function takes any bits and reads from any bit on. Its contract says that its answer stands, by a map of
-// specs/InstructionsAt.antt, for what a reader of crate plate's specs/Plate.antt finds there.
+// An instruction that is read first is judged, and answers its end alone (`pass_instruction`). Of one that was read before, the head is
+// read, which says where its texts begin (`accepted_head`), or its end (`accepted_end`): nothing is judged again. The contracts say it by
+// the readers of crate plate's specs/Plate.antt; specs/Heads.antt says which instruction a head begins.
 // Asked of a caller (crate plate_texts' `Lent`): a plate of at most 2,953 bytes, the index of the book, and own phrases that are there.
-mod instruction_at;
+mod heads;
 mod passing;
-mod refusals;
 
-use causes::Refusal;
-pub use instruction_at::accepted_instruction;
+pub use heads::accepted_end;
+pub use heads::accepted_head;
 pub use passing::pass_instruction;
-use plate_texts::TextAt;
 use transcript::Test;
 
-// An instruction of a plate. The options of inputs stand one behind the other from a bit on.
-pub enum InstructionAt {
+// What stands in front of an instruction's texts. A text begins at its bit; the next is the bit behind an instruction that has no text.
+pub enum Head {
     Input {
         register: usize,
-        text: TextAt,
+        text: usize,
     },
     Inputs {
         register: usize,
-        text: TextAt,
-        options: usize,
-        bit: usize,
+        text: usize,
     },
     Print {
-        text: TextAt,
+        text: usize,
     },
     Printex {
-        text: TextAt,
+        text: usize,
     },
     Goto {
         skip: usize,
+        next: usize,
     },
     IfSkip {
         test: Test,
         skip: usize,
+        next: usize,
     },
-}
-
-// What reading an instruction finds: the instruction and the bit behind it, or a refusal.
-pub enum InstructionRead {
-    Is(InstructionAt, usize),
-    Refused(Refusal),
 }

@@ -1,2 +1,3 @@
+pub mod HeadLines
 pub mod LineBytes
 pub mod Pieces

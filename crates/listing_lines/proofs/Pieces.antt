@@ -10,7 +10,6 @@ use Rattle.text.specs.Parts.{join, comma, LF}
 use Rattle.output.specs.Pour.{poured}
 use Rattle.output.proofs.Pour.{none, then}
 use Rattle.output.proofs.Poured.{ended}
-use Rattle.transcript.specs.Offered.{optionsBytes}
 use Rattle.plate.specs.Reading.{got, stopped, Reader}
 use Rattle.fields.specs.Places.{placeAt}
 use Rattle.reader.specs.Holding.{There}
@@ -21,10 +20,6 @@ use Rattle.listing.specs.Listing.{linesText}
 pub record Pieces {A : Type 0} (one : A → List ℕ) (write : List A → List ℕ) : Type 0 where
   pub nothing : write [] ≡ []
   pub more : (x : A) (xs : List A) → write (x ∷ xs) ≡ one x ++ write xs
-
-pub options-pieces : Pieces (λ (o : List ℕ). comma ∷ o) optionsBytes
-unfolding optionsBytes
-options-pieces = record { nothing = refl; more = λ x xs. refl }
 
 -- lines, each ended by LF
 pub lines-pieces : {A : Type 0} (f : A → List (List ℕ)) → Pieces (λ x. linesText (f x ∷ [])) (λ xs. linesText (map f xs))

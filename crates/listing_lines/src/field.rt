@@ -1,58 +1,12 @@
-// The fields of a line, each behind a comma: a text of a plate, a number from 0 on, an operator, a constant.
+// The fields of a line, each behind a comma: a number from 0 on, an operator, a constant.
 ghost use mathlib.Core.Path.{_≡_};
 ghost use mathlib.Core.List.{_∷_};
-ghost use Prim.Native.Nat.{_≤_, _<_};
-ghost use lib.ListN.{length};
+ghost use Prim.Native.Nat.{_<_};
 ghost use Rattle.text.specs.Parts.{comma};
 ghost use Rattle.decimals.specs.Number.{decimalℕ, decimal};
 ghost use Rattle.output.specs.Pour.{poured};
-ghost use Rattle.phrases.specs.Index.{Indexed};
-ghost use Rattle.plate_texts.specs.TextsAt.{textAt};
 ghost use Rattle.listing.specs.Listing.{operatorWord};
-use plate_texts::TextAt;
 use transcript::Op;
-
-// The bytes of a text of a plate: its characters, or a part of the book or of the own phrases.
-fn put_text_at<'a>(
-    plate: &[u8],
-    index: &'a [u32],
-    book: &'a [u8],
-    own: &'a [u8],
-    text: TextAt,
-    out: &mut [u8],
-    at: usize,
-) -> usize
-    requires { ⌜ (length (now plate) ≤ 2953) × Indexed (now index) (now book) ⌝ }
-    ensures { λ r. ⌜ (r, now (out .exit)) ≡ poured at (textAt (now (plate .entry)) (now (book .entry)) (now (own .entry)) text) (now (out .entry)) ⌝ }
-{
-    match text {
-        TextAt::Spelled { bit, size } => fields::put_characters(plate, bit, size, out, at),
-        TextAt::Phrase { own: is_own, place } => {
-            text_out::put(
-                out,
-                at,
-                phrases::phrase_text(index, book, own, is_own, place),
-            )
-        }
-    }
-}
-
-// A text.
-pub fn put_text<'a>(
-    plate: &[u8],
-    index: &'a [u32],
-    book: &'a [u8],
-    own: &'a [u8],
-    text: TextAt,
-    out: &mut [u8],
-    at: usize,
-) -> usize
-    requires { ⌜ (length (now plate) ≤ 2953) × Indexed (now index) (now book) ⌝ }
-    ensures { λ r. ⌜ (r, now (out .exit)) ≡ poured at (comma ∷ textAt (now (plate .entry)) (now (book .entry)) (now (own .entry)) text) (now (out .entry)) ⌝ }
-{
-    let end = text_out::put_byte(out, at, b',');
-    put_text_at(plate, index, book, own, text, out, end)
-}
 
 // A register or a skip.
 pub fn put_natural(out: &mut [u8], at: usize, n: usize) -> usize

@@ -1,138 +1,178 @@
 // The lines of instructions, each written at the front of the listing's unwritten tail.
-// Crate listing's specs/Listing.antt says which line an instruction is. An instruction is taken as it was read from a plate that was accepted: a
-// text is taken where it stands, and options are read again from their bits. A line is stored as far as the tail goes, and counted to its end.
+// Crate listing's specs/Listing.antt says which line an instruction is. An instruction is read from its bits on a plate that was accepted: its
+// head first, and then each text is copied from the plate into its line. A line is stored as far as the tail goes, and counted to its end.
 mod field;
-mod options;
 
 ghost use mathlib.Core.Path.{_≡_};
 ghost use mathlib.Core.List.{[], _∷_, _++_};
-ghost use Prim.Native.Nat.{_≤_, _<_};
-ghost use lib.ListN.{length};
+ghost use Prim.Native.Nat.{_<_};
 ghost use Rattle.output.specs.Pour.{poured};
-ghost use Rattle.text.specs.Parts.{comma};
+ghost use Rattle.text.specs.Parts.{comma, LF};
 ghost use Rattle.decimals.specs.Number.{decimalℕ};
 ghost use Rattle.phrases.specs.Lookup.{phrasesIn};
-ghost use Rattle.phrases.specs.Index.{Indexed};
+ghost use Rattle.plate.specs.Reading.{got};
 ghost use Rattle.plate.specs.Plate as reader;
-ghost use Rattle.transcript.specs.Statement.{input, inputs, print, printex};
 ghost use Rattle.plate.specs.Program.{goto, ifSkip};
-ghost use Rattle.plate_texts.specs.TextsAt.{textAt, Lent};
-ghost use Rattle.instructions.specs.InstructionsAt.{instructionAt};
-ghost use Rattle.reader.specs.Holding.{There};
-ghost use Rattle.listing.specs.Listing.{statementFields, instructionFields, linesText};
-ghost use Rattle.listing_lines.specs.Lines.{optionsAt, Ready};
+ghost use Rattle.fields.specs.Places.{placeAt, endWith, valuesOf, Known};
+ghost use Rattle.plate_texts.specs.TextsAt.{Lent};
+ghost use Rattle.instructions.specs.declared.Head.the-variants as heads;
+ghost use Rattle.instructions.specs.Heads.{headed, instructionOf};
+ghost use Rattle.listing.specs.Listing.{instructionFields, linesText};
 use crate::field::put_constant;
 use crate::field::put_natural;
 use crate::field::put_operator;
-use crate::field::put_text;
-use crate::options::put_options;
-use instructions::InstructionAt;
-use plate_texts::TextAt;
+use fields::Copied;
+use instructions::Head;
+use instructions::accepted_head;
+use plate_texts::copy_options;
+use plate_texts::copy_text;
 use transcript::Test;
 
-// A word and a text.
+// A word with its comma, a text, and LF.
 fn put_text_line<'a>(
     plate: &[u8],
+    at: usize,
     index: &'a [u32],
     book: &'a [u8],
     own: &'a [u8],
+    count: usize,
     word: &[u8],
-    text: TextAt,
     tail: &mut [u8],
-) -> usize
-    requires { ⌜ (length (now plate) ≤ 2953) × Indexed (now index) (now book) ⌝ }
-    ensures { λ r. ⌜ (r, now (tail .exit)) ≡ poured 0 (linesText ((now (word .entry) ∷ textAt (now (plate .entry)) (now (book .entry)) (now (own .entry)) text ∷ []) ∷ [])) (now (tail .entry)) ⌝ }
+) -> Copied
+    requires { ⌜ Lent (now plate) (now index) (now book) (now own) count × Known (reader.text (phrasesIn (now book) (now own) count) (placeAt (now plate) at)) ⌝ }
+    ensures { λ r. ⌜ (r .end, now (tail .exit)) ≡ poured 0 ((now (word .entry) ++ valuesOf (reader.text (phrasesIn (now (book .entry)) (now (own .entry)) count) (placeAt (now (plate .entry)) at))) ++ (LF ∷ [])) (now (tail .entry)) ⌝ }
+    ensures { λ r. ⌜ got 0 (placeAt (now (plate .entry)) (r .next)) ≡ endWith 0 (reader.text (phrasesIn (now (book .entry)) (now (own .entry)) count) (placeAt (now (plate .entry)) at)) ⌝ }
 {
-    let end = text_out::put(tail, 0, word);
-    let end = put_text(plate, index, book, own, text, tail, end);
-    text_out::put_byte(tail, end, b'\n')
+    let text_at = text_out::put(tail, 0, word);
+    let copied = copy_text(plate, at, index, book, own, count, tail, text_at);
+    let end = text_out::put_byte(tail, copied.end, b'\n');
+    Copied {
+        end,
+        next: copied.next,
+    }
 }
 
 // `print,TEXT`.
 fn put_print<'a>(
     plate: &[u8],
+    at: usize,
     index: &'a [u32],
     book: &'a [u8],
     own: &'a [u8],
-    text: TextAt,
+    count: usize,
     tail: &mut [u8],
-) -> usize
-    requires { ⌜ (length (now plate) ≤ 2953) × Indexed (now index) (now book) ⌝ }
-    ensures { λ r. ⌜ (r, now (tail .exit)) ≡ poured 0 (linesText (statementFields (print (textAt (now (plate .entry)) (now (book .entry)) (now (own .entry)) text)) ∷ [])) (now (tail .entry)) ⌝ }
+) -> Copied
+    requires { ⌜ Lent (now plate) (now index) (now book) (now own) count × Known (headed (now plate) (phrasesIn (now book) (now own) count) (heads.Print at)) ⌝ }
+    ensures { λ r. ⌜ (r .end, now (tail .exit)) ≡ poured 0 (linesText (instructionFields (instructionOf (headed (now (plate .entry)) (phrasesIn (now (book .entry)) (now (own .entry)) count) (heads.Print at))) ∷ [])) (now (tail .entry)) ⌝ }
+    ensures { λ r. ⌜ got 0 (placeAt (now (plate .entry)) (r .next)) ≡ endWith 0 (headed (now (plate .entry)) (phrasesIn (now (book .entry)) (now (own .entry)) count) (heads.Print at)) ⌝ }
 {
-    put_text_line(plate, index, book, own, b"print", text, tail)
+    put_text_line(plate, at, index, book, own, count, b"print,", tail)
 }
 
 // `printex,TEXT`.
 fn put_printex<'a>(
     plate: &[u8],
+    at: usize,
     index: &'a [u32],
     book: &'a [u8],
     own: &'a [u8],
-    text: TextAt,
+    count: usize,
     tail: &mut [u8],
-) -> usize
-    requires { ⌜ (length (now plate) ≤ 2953) × Indexed (now index) (now book) ⌝ }
-    ensures { λ r. ⌜ (r, now (tail .exit)) ≡ poured 0 (linesText (statementFields (printex (textAt (now (plate .entry)) (now (book .entry)) (now (own .entry)) text)) ∷ [])) (now (tail .entry)) ⌝ }
+) -> Copied
+    requires { ⌜ Lent (now plate) (now index) (now book) (now own) count × Known (headed (now plate) (phrasesIn (now book) (now own) count) (heads.Printex at)) ⌝ }
+    ensures { λ r. ⌜ (r .end, now (tail .exit)) ≡ poured 0 (linesText (instructionFields (instructionOf (headed (now (plate .entry)) (phrasesIn (now (book .entry)) (now (own .entry)) count) (heads.Printex at))) ∷ [])) (now (tail .entry)) ⌝ }
+    ensures { λ r. ⌜ got 0 (placeAt (now (plate .entry)) (r .next)) ≡ endWith 0 (headed (now (plate .entry)) (phrasesIn (now (book .entry)) (now (own .entry)) count) (heads.Printex at)) ⌝ }
 {
-    put_text_line(plate, index, book, own, b"printex", text, tail)
+    put_text_line(plate, at, index, book, own, count, b"printex,", tail)
 }
 
-// The front of a question's line: a word, a register and a text.
+// The front of a question's line: a word with its comma, a register and a text.
 fn put_question<'a>(
     plate: &[u8],
+    at: usize,
     index: &'a [u32],
     book: &'a [u8],
     own: &'a [u8],
+    count: usize,
     word: &[u8],
     register: usize,
-    text: TextAt,
     tail: &mut [u8],
-) -> usize
-    requires { ⌜ (length (now plate) ≤ 2953) × Indexed (now index) (now book) × (register < 32) ⌝ }
-    ensures { λ r. ⌜ (r, now (tail .exit)) ≡ poured 0 ((now (word .entry) ++ (comma ∷ decimalℕ register)) ++ (comma ∷ textAt (now (plate .entry)) (now (book .entry)) (now (own .entry)) text)) (now (tail .entry)) ⌝ }
+) -> Copied
+    requires { ⌜ Lent (now plate) (now index) (now book) (now own) count × (register < 32) × Known (reader.text (phrasesIn (now book) (now own) count) (placeAt (now plate) at)) ⌝ }
+    ensures { λ r. ⌜ (r .end, now (tail .exit)) ≡ poured 0 ((now (word .entry) ++ decimalℕ register) ++ (comma ∷ valuesOf (reader.text (phrasesIn (now (book .entry)) (now (own .entry)) count) (placeAt (now (plate .entry)) at)))) (now (tail .entry)) ⌝ }
+    ensures { λ r. ⌜ got 0 (placeAt (now (plate .entry)) (r .next)) ≡ endWith 0 (reader.text (phrasesIn (now (book .entry)) (now (own .entry)) count) (placeAt (now (plate .entry)) at)) ⌝ }
 {
     let end = text_out::put(tail, 0, word);
-    let end = put_natural(tail, end, register);
-    put_text(plate, index, book, own, text, tail, end)
+    let end = text_out::put_natural(tail, end, register);
+    let text_at = text_out::put_byte(tail, end, b',');
+    copy_text(plate, at, index, book, own, count, tail, text_at)
 }
 
 // `input,R,TEXT`.
 fn put_input<'a>(
     plate: &[u8],
-    index: &'a [u32],
-    book: &'a [u8],
-    own: &'a [u8],
-    register: usize,
-    text: TextAt,
-    tail: &mut [u8],
-) -> usize
-    requires { ⌜ (length (now plate) ≤ 2953) × Indexed (now index) (now book) × (register < 32) ⌝ }
-    ensures { λ r. ⌜ (r, now (tail .exit)) ≡ poured 0 (linesText (statementFields (input register (textAt (now (plate .entry)) (now (book .entry)) (now (own .entry)) text)) ∷ [])) (now (tail .entry)) ⌝ }
-{
-    let end = put_question(plate, index, book, own, b"input", register, text, tail);
-    text_out::put_byte(tail, end, b'\n')
-}
-
-// `inputs,R,TEXT,OPTION,..`.
-fn put_inputs<'a>(
-    plate: &[u8],
+    at: usize,
     index: &'a [u32],
     book: &'a [u8],
     own: &'a [u8],
     count: usize,
     register: usize,
-    text: TextAt,
-    options: usize,
-    bit: usize,
     tail: &mut [u8],
-) -> usize
-    requires { ⌜ Lent (now plate) (now index) (now book) (now own) count × (register < 32) × There (λ j. reader.text (phrasesIn (now book) (now own) count)) (now plate) options bit (optionsAt (now plate) (phrasesIn (now book) (now own) count) options bit) ⌝ }
-    ensures { λ r. ⌜ (r, now (tail .exit)) ≡ poured 0 (linesText (statementFields (inputs register (textAt (now (plate .entry)) (now (book .entry)) (now (own .entry)) text) (optionsAt (now (plate .entry)) (phrasesIn (now (book .entry)) (now (own .entry)) count) options bit)) ∷ [])) (now (tail .entry)) ⌝ }
+) -> Copied
+    requires { ⌜ Lent (now plate) (now index) (now book) (now own) count × (register < 32) × Known (headed (now plate) (phrasesIn (now book) (now own) count) (heads.Input register at)) ⌝ }
+    ensures { λ r. ⌜ (r .end, now (tail .exit)) ≡ poured 0 (linesText (instructionFields (instructionOf (headed (now (plate .entry)) (phrasesIn (now (book .entry)) (now (own .entry)) count) (heads.Input register at))) ∷ [])) (now (tail .entry)) ⌝ }
+    ensures { λ r. ⌜ got 0 (placeAt (now (plate .entry)) (r .next)) ≡ endWith 0 (headed (now (plate .entry)) (phrasesIn (now (book .entry)) (now (own .entry)) count) (heads.Input register at)) ⌝ }
 {
-    let end = put_question(plate, index, book, own, b"inputs", register, text, tail);
-    let end = put_options(plate, index, book, own, count, options, bit, tail, end);
-    text_out::put_byte(tail, end, b'\n')
+    let asked = put_question(
+        plate,
+        at,
+        index,
+        book,
+        own,
+        count,
+        b"input,",
+        register,
+        tail,
+    );
+    let end = text_out::put_byte(tail, asked.end, b'\n');
+    Copied {
+        end,
+        next: asked.next,
+    }
+}
+
+// `inputs,R,TEXT,OPTION,..`.
+fn put_inputs<'a>(
+    plate: &[u8],
+    at: usize,
+    index: &'a [u32],
+    book: &'a [u8],
+    own: &'a [u8],
+    count: usize,
+    register: usize,
+    tail: &mut [u8],
+) -> Copied
+    requires { ⌜ Lent (now plate) (now index) (now book) (now own) count × (register < 32) × Known (headed (now plate) (phrasesIn (now book) (now own) count) (heads.Inputs register at)) ⌝ }
+    ensures { λ r. ⌜ (r .end, now (tail .exit)) ≡ poured 0 (linesText (instructionFields (instructionOf (headed (now (plate .entry)) (phrasesIn (now (book .entry)) (now (own .entry)) count) (heads.Inputs register at))) ∷ [])) (now (tail .entry)) ⌝ }
+    ensures { λ r. ⌜ got 0 (placeAt (now (plate .entry)) (r .next)) ≡ endWith 0 (headed (now (plate .entry)) (phrasesIn (now (book .entry)) (now (own .entry)) count) (heads.Inputs register at)) ⌝ }
+{
+    let asked = put_question(
+        plate,
+        at,
+        index,
+        book,
+        own,
+        count,
+        b"inputs,",
+        register,
+        tail,
+    );
+    let offered = copy_options(plate, asked.next, index, book, own, count, tail, asked.end);
+    let end = text_out::put_byte(tail, offered.end, b'\n');
+    Copied {
+        end,
+        next: offered.next,
+    }
 }
 
 // `goto,SKIP`.
@@ -161,43 +201,37 @@ fn put_if(test: Test, skip: usize, tail: &mut [u8]) -> usize
     text_out::put_byte(tail, end, b'\n')
 }
 
-// The line of an instruction.
+// The line of the instruction at a bit, and the bit behind it.
 pub fn put_instruction<'a>(
     plate: &[u8],
+    at: usize,
+    behind: usize,
     index: &'a [u32],
     book: &'a [u8],
     own: &'a [u8],
     count: usize,
-    i: InstructionAt,
     tail: &mut [u8],
-) -> usize
-    requires { ⌜ Lent (now plate) (now index) (now book) (now own) count × Ready (now plate) (now book) (now own) count i ⌝ }
-    ensures { λ r. ⌜ (r, now (tail .exit)) ≡ poured 0 (linesText (instructionFields (instructionAt (now (plate .entry)) (now (book .entry)) (now (own .entry)) count i) ∷ [])) (now (tail .entry)) ⌝ }
+) -> Copied
+    requires { ⌜ Lent (now plate) (now index) (now book) (now own) count × Known (reader.instruction (phrasesIn (now book) (now own) count) behind (placeAt (now plate) at)) ⌝ }
+    ensures { λ r. ⌜ (r .end, now (tail .exit)) ≡ poured 0 (linesText (instructionFields (instructionOf (reader.instruction (phrasesIn (now (book .entry)) (now (own .entry)) count) behind (placeAt (now (plate .entry)) at))) ∷ [])) (now (tail .entry)) ⌝ }
+    ensures { λ r. ⌜ got 0 (placeAt (now (plate .entry)) (r .next)) ≡ endWith 0 (reader.instruction (phrasesIn (now (book .entry)) (now (own .entry)) count) behind (placeAt (now (plate .entry)) at)) ⌝ }
 {
-    match i {
-        InstructionAt::Input { register, text } => {
-            put_input(plate, index, book, own, register, text, tail)
+    match accepted_head(plate, at) {
+        Head::Input { register, text } => {
+            put_input(plate, text, index, book, own, count, register, tail)
         }
-        InstructionAt::Inputs {
-            register,
-            text,
-            options,
-            bit,
-        } => put_inputs(
-            plate,
-            index,
-            book,
-            own,
-            count,
-            register,
-            text,
-            options,
-            bit,
-            tail,
-        ),
-        InstructionAt::Print { text } => put_print(plate, index, book, own, text, tail),
-        InstructionAt::Printex { text } => put_printex(plate, index, book, own, text, tail),
-        InstructionAt::Goto { skip } => put_goto(skip, tail),
-        InstructionAt::IfSkip { test, skip } => put_if(test, skip, tail),
+        Head::Inputs { register, text } => {
+            put_inputs(plate, text, index, book, own, count, register, tail)
+        }
+        Head::Print { text } => put_print(plate, text, index, book, own, count, tail),
+        Head::Printex { text } => put_printex(plate, text, index, book, own, count, tail),
+        Head::Goto { skip, next } => Copied {
+            end: put_goto(skip, tail),
+            next,
+        },
+        Head::IfSkip { test, skip, next } => Copied {
+            end: put_if(test, skip, tail),
+            next,
+        },
     }
 }

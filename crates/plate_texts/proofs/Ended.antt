@@ -1,10 +1,11 @@
 -- Readings of which only the end is known: what was read ends there, or is refused there.
 use Prim.Native.Nat.{ℕ}
-use mathlib.Core.Path.{_≡_, refl, ap}
+use mathlib.Core.Path.{_≡_, refl, sym, ap, _∙_}
+use mathlib.Core.List.{List}
 use native.Mathlib.Omega.{arith}
 use Rattle.causes.specs.declared.Cause.{Cause}
 use Rattle.plate.specs.Reading.{Place, Read, got, stopped, Reader, return, onward, _>>=_}
-use Rattle.fields.specs.Places.{endWith}
+use Rattle.fields.specs.Places.{endWith, valuesOf}
 
 module _ {A : Type 0} where
   -- something was read that ends there
@@ -24,3 +25,7 @@ module _ {A : Type 0} where
       go : (m : Read A) → endWith k m ≡ endWith k (onward m (λ a. return (f a)))
       go (got a s) = refl
       go (stopped cause bit) = refl
+
+-- of values, these were read
+pub ended-got : {A : Type 0} (k v : ℕ) (s : Place) (m : Read (List A)) → got v s ≡ endWith k m → got (valuesOf m) s ≡ m
+ended-got k v s m e = let t = ended-some k v s m e in ap (λ m. got (valuesOf m) s) (sym (t .1)) ∙ t .1

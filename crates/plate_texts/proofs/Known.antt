@@ -7,8 +7,7 @@ use native.Mathlib.Numerals.{sub-one}
 use native.Mathlib.Omega.{arith}
 use Rattle.causes.specs.declared.Cause.{Cause}
 use Rattle.plate.specs.Reading.{Place, Read, got, stopped, Reader, judgeRead, judged, return, _>>=_, many}
-use Rattle.fields.specs.Places.{placeAt}
-use Rattle.plate_texts.specs.TextsAt.{Known}
+use Rattle.fields.specs.Places.{placeAt, Known}
 use Rattle.fields.proofs.Onward.{then-got, then-stopped, judged-not}
 
 -- the same reading

@@ -18,15 +18,12 @@ use Rattle.phrases.proofs.Entries.{indexed-count}
 use Rattle.phrases.proofs.Texts.{phrase-in-own, phrase-in-book}
 use Rattle.fields.specs.declared.Field.{Field}
 use Rattle.fields.specs.declared.Field.the-variants.{Is, Refused}
-use Rattle.plate_texts.specs.declared.TextAt.the-variants.{Phrase}
-use Rattle.plate_texts.specs.declared.TextRead.{TextRead}
-use Rattle.plate_texts.specs.declared.TextRead.the-variants as texts
-use Rattle.plate.specs.Reading.{Place, got, stopped, Reader, number, judged, return}
+use Rattle.plate.specs.Reading.{Place, Read, got, stopped, Reader, number, judged, return}
 use Rattle.plate.specs.Plate.{phraseAt, phrase}
-use Rattle.fields.specs.Places.{placeAt, fieldRead, endWith}
+use Rattle.fields.specs.Places.{placeAt, fieldRead, endWith, Known}
 use Rattle.plate_texts.specs.declared.phrase_place.Source.{Source}
 use Rattle.plate_texts.specs.Sources.{source, sourceRead}
-use Rattle.plate_texts.specs.TextsAt.{textAt, textsRead, Lent, Known}
+use Rattle.plate_texts.specs.TextsAt.{Lent}
 use Rattle.plate_texts.proofs.SourceRead.{by-source, Sourced, sourced}
 use Rattle.plate_texts.proofs.Known.{known-same, known-first, known-then, known-judged}
 use Rattle.plate.proofs.Readers.{gives-number, gives-judged}
@@ -52,30 +49,30 @@ place-alike (suc n) r plate at h =
 -- ---- the phrase there
 
 -- a phrase whose place the code read
-abbrev pub phraseOf : Field → Bool → TextRead
-phraseOf (Is i next) isOwn = texts.Is (Phrase isOwn i) next
-phraseOf (Refused r) isOwn = texts.Refused r
+abbrev pub phraseRead : List ℕ → List ℕ → List ℕ → Bool → Field → Read Text
+phraseRead plate book own isOwn (Is i next) = got (phraseIn book own isOwn i) (placeAt plate next)
+phraseRead plate book own isOwn (Refused r) = stopped (r .cause) (r .place)
 
 module _ (plate book own : List ℕ) (at : ℕ) (isOwn : Bool) (ts : List Text)
     (there : (i : ℕ) → i < length ts → phraseIn book own isOwn i ≡ getD ts i []) where
   phrase-there : (f : Field) → fieldRead plate f ≡ judged (number (width (length ts))) (λ i. ltb i (length ts)) Unused (placeAt plate at)
-      → textsRead plate book own (phraseOf f isOwn) ≡ phraseAt ts (placeAt plate at)
-  unfolding phraseAt textAt return
+      → phraseRead plate book own isOwn f ≡ phraseAt ts (placeAt plate at)
+  unfolding phraseAt return
   phrase-there (Is i next) e =
       let good = got-good (placeAt plate at) (gives-judged (λ i. ltb i (length ts)) Unused (gives-number (width (length ts)))) e in
       ap (λ t. got t (placeAt plate next)) (there i (ltb-true i (length ts) (good .1)))
       ∙ then-got _ (λ i. return (getD ts i [])) (placeAt plate at) e
   phrase-there (Refused r) e = then-stopped _ (λ i. return (getD ts i [])) (placeAt plate at) e
 
-module _ (plate book own : List ℕ) (at count n : ℕ) (f : Field) (r : TextRead)
+module _ (plate book own : List ℕ) (at count n : ℕ) (f : Field)
     (e : fieldRead plate f ≡ judged (number (width n)) (λ i. ltb i n) Unused (placeAt plate at))
     (whole : length (ownTexts count own) ≡ count) where
-  pub place-there : (isOwn : Bool) → n ≡ length (cond isOwn (ownTexts count own) (bookTexts book)) → r ≡ phraseOf f isOwn
-      → textsRead plate book own r ≡ phraseAt (cond isOwn (ownTexts count own) (bookTexts book)) (placeAt plate at)
-  place-there true z k =
-      rw k (phrase-there plate book own at true (ownTexts count own) (λ i h. phrase-in-own book own i count (omega arith)) f (rw z at e))
-  place-there false z k =
-      rw k (phrase-there plate book own at false (bookTexts book) (λ i h. phrase-in-book book own i h) f (rw z at e))
+  place-there : (isOwn : Bool) → n ≡ length (cond isOwn (ownTexts count own) (bookTexts book))
+      → phraseRead plate book own isOwn f ≡ phraseAt (cond isOwn (ownTexts count own) (bookTexts book)) (placeAt plate at)
+  place-there true z =
+      phrase-there plate book own at true (ownTexts count own) (λ i h. phrase-in-own book own i count (omega arith)) f (rw z at e)
+  place-there false z =
+      phrase-there plate book own at false (bookTexts book) (λ i h. phrase-in-book book own i h) f (rw z at e)
 
 -- ---- a phrase by its source
 
@@ -101,8 +98,8 @@ module _ {plate index book own : List ℕ} {count : ℕ} (l : Lent plate index b
     module _ (s : Sourced (bookTexts book) (ownTexts count own) isOwn n) where
       -- the phrase at a place that the code read and judged
       pub phrase-read : (f : Field) → fieldRead plate f ≡ judged (number (width n)) (λ i. ltb i n) Unused (placeAt plate next)
-          → textsRead plate book own (phraseOf f isOwn) ≡ phrase (bookTexts book) (ownTexts count own) here
-      phrase-read f j = place-there plate book own next count n f (phraseOf f isOwn) j (l .whole) isOwn (s .all) refl
+          → phraseRead plate book own isOwn f ≡ phrase (bookTexts book) (ownTexts count own) here
+      phrase-read f j = place-there plate book own next count n f j (l .whole) isOwn (s .all)
           ∙ then-got _ (λ s. phraseAt (cond (s .0) (ownTexts count own) (bookTexts book))) here e
           ∙ by-source (bookTexts book) (ownTexts count own) here
 
@@ -118,6 +115,6 @@ module _ {plate index book own : List ℕ} {count : ℕ} (l : Lent plate index b
 
 -- only the end of a phrase
 pub phrase-ended : (plate book own : List ℕ) (f : Field) (isOwn : Bool)
-    → endWith 0 (fieldRead plate f) ≡ endWith 0 (textsRead plate book own (phraseOf f isOwn))
+    → endWith 0 (fieldRead plate f) ≡ endWith 0 (phraseRead plate book own isOwn f)
 phrase-ended plate book own (Is i next) isOwn = refl
 phrase-ended plate book own (Refused r) isOwn = refl

@@ -1,6 +1,6 @@
 -- Texts as the code reads them: the code, and one text behind the other.
 use Prim.Native.Nat.{ℕ, zero, suc, _+_, _-_, _<_}
-use mathlib.Core.Path.{_≡_, refl, ap, _∙_}
+use mathlib.Core.Path.{_≡_, refl, sym, ap, _∙_}
 use mathlib.Core.List.{List, [], _∷_}
 use mathlib.Core.Bool.{true, false, false≢true}
 use native.Mathlib.Numerals.{sub-one}
@@ -15,8 +15,9 @@ use Rattle.phrases.specs.Lookup.{bookTexts, ownTexts}
 use Rattle.phrases.specs.Index.{Indexed}
 use Rattle.phrases.proofs.Entries.{indexed-count}
 use Rattle.plate.specs.Reading.{Place, Read, got, stopped, Reader, number, judged, return, onward, _>>=_, many}
-use Rattle.plate.specs.Plate.{isTextCode, textBy, spelled, phrase}
-use Rattle.fields.specs.Places.{placeAt, endWith}
+use Rattle.plate.specs.Plate.{isTextCode, textBy, text, spelled, phrase}
+use Rattle.fields.specs.Places.{placeAt, endWith, Known}
+use Rattle.plate_texts.proofs.Known.{known-first, known-judged}
 use Rattle.plate_texts.specs.TextsAt.{codeWith}
 use Rattle.plate.proofs.Readers.{gives-number, gives-judged}
 use Rattle.fields.proofs.Onward.{then-stopped, judged-alike, got-good}
@@ -42,6 +43,18 @@ some-phrase n code p q e h = go code h (got-good p (gives-judged (codeWith n) Un
     go (suc zero) h t = absurd (false≢true t)
     go (suc (suc zero)) h t = leb-true 1 n t
     go (suc (suc (suc k))) h t = absurd (false≢true t)
+
+-- where a text is known to be good, its code need not be judged
+pub known-code : (c : Phrases) (plate : List ℕ) (at : ℕ) → Known (text c (placeAt plate at))
+    → number 2 (placeAt plate at) ≡ judged (number 2) (isTextCode c) Unused (placeAt plate at)
+unfolding text
+known-code c plate at w = known-judged _ _ _ plate at (known-first _ _ _ w)
+
+-- and is that of a phrase only where there are some
+pub known-phrase : (c : Phrases) (plate : List ℕ) (at code : ℕ) (q : Place) → got code q ≡ judged (number 2) (isTextCode c) Unused (placeAt plate at)
+    → (code ≡ 0 → ⊥) → 0 < length (c .book) + length (c .own)
+known-phrase c plate at code q e h =
+    some-phrase (length (c .book) + length (c .own)) code (placeAt plate at) q (e ∙ sym (text-code c _ plate at refl)) h
 
 pub by-spelled : (c : Phrases) (q : Place) (code : ℕ) → code ≡ 0 → spelled (c .book) (c .own) q ≡ textBy c code q
 by-spelled c q code z = rw z

@@ -2,28 +2,26 @@
 // Every function takes any bits and reads from any bit on. Its contract says that its answer stands, by a map of specs/TextsAt.antt, for
 // what a reader of crate plate's specs/Plate.antt finds there.
 // Asked of a caller (`Lent`): a plate of at most 2,953 bytes, the index of the book, and own phrases that are there.
-// A text is answered by its place, never copied: characters from a bit on, or a phrase of the book or of the own ones.
+// A text that is read first is judged, and answers its end alone; one that was read before is copied into a lent buffer, or passed over.
 mod accepted;
+mod copying;
 mod phrase_place;
 mod refusals;
 mod spelled_text;
 mod text_at;
 
-pub use accepted::accepted_text;
+pub use accepted::options_end;
+pub use accepted::text_end;
 pub use accepted::texts_end;
-use causes::Refusal;
+pub use copying::copy_options;
+pub use copying::copy_text;
 pub use spelled_text::read_spelled;
 pub use text_at::pass_text;
 pub use text_at::pass_texts;
 
-// A text of a plate: characters from a bit on, or a phrase by its place in the book or among the own phrases.
-pub enum TextAt {
-    Spelled { bit: usize, size: usize },
-    Phrase { own: bool, place: usize },
-}
-
-// What reading a text finds: the text and the bit behind it, or a refusal.
-pub enum TextRead {
-    Is(TextAt, usize),
-    Refused(Refusal),
+// Options that were copied from a plate into a buffer: how many, where they end in the buffer, and the bit behind them on the plate.
+pub struct Offered {
+    pub options: usize,
+    pub end: usize,
+    pub next: usize,
 }

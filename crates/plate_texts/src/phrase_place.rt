@@ -5,14 +5,12 @@ ghost use lib.ListN.{length, getD};
 ghost use lib.Dec.{ltb};
 ghost use Rattle.causes.specs.declared.Cause.the-variants.{Unused};
 ghost use Rattle.phrases.specs.Phrases.{width};
-ghost use Rattle.phrases.specs.Lookup.{bookTexts, ownTexts};
+ghost use Rattle.phrases.specs.Lookup.{bookTexts, ownTexts, phraseIn};
 ghost use Rattle.plate.specs.Reading.{got, number, judged};
 ghost use Rattle.plate.specs.Plate.{phrase};
-ghost use Rattle.fields.specs.Places.{placeAt, fieldRead, endWith};
+ghost use Rattle.fields.specs.Places.{placeAt, fieldRead, endWith, Known};
 ghost use Rattle.plate_texts.specs.Sources.{source, sourceRead};
-ghost use Rattle.plate_texts.specs.TextsAt.{textsRead, Lent, Known};
-use crate::TextAt;
-use crate::TextRead;
+ghost use Rattle.plate_texts.specs.TextsAt.{Lent};
 use causes::Cause;
 use causes::Refusal;
 use fields::Field;
@@ -93,6 +91,13 @@ pub fn pass_phrase(
     Field::Is(0, end)
 }
 
+// A phrase by its place in the book or among the own phrases, and the bit behind it.
+pub struct PhraseAt {
+    pub own: bool,
+    pub place: usize,
+    pub next: usize,
+}
+
 // A phrase that was read before: its place is not judged again.
 pub fn accepted_phrase(
     plate: &[u8],
@@ -101,40 +106,30 @@ pub fn accepted_phrase(
     book: &[u8],
     own: &[u8],
     count: usize,
-) -> TextRead
+) -> PhraseAt
     requires { ⌜ Lent (now plate) (now index) (now book) (now own) count × (0 < getD (now index) 0 0 + count) × Known (phrase (bookTexts (now book)) (ownTexts count (now own)) (placeAt (now plate) at)) ⌝ }
-    ensures { λ r. ⌜ textsRead (now (plate .entry)) (now (book .entry)) (now (own .entry)) r ≡ phrase (bookTexts (now (book .entry))) (ownTexts count (now (own .entry))) (placeAt (now (plate .entry)) at) ⌝ }
+    ensures { λ r. ⌜ got (phraseIn (now (book .entry)) (now (own .entry)) (r .own) (r .place)) (placeAt (now (plate .entry)) (r .next)) ≡ phrase (bookTexts (now (book .entry))) (ownTexts count (now (own .entry))) (placeAt (now (plate .entry)) at) ⌝ }
 {
     let source = read_source(plate, at, phrases::count_of(index), count);
+    // Never refused: the phrase was read before.
     let Source::Is { own, n, next } = source else {
-        return TextRead::Refused(source.refusal());
+        return PhraseAt {
+            own: false,
+            place: 0,
+            next: at,
+        };
     };
     let field = read_plain(plate, next, phrases::width_of(n));
     let Field::Is(place, end) = field else {
-        return TextRead::Refused(field.refusal());
+        return PhraseAt {
+            own: false,
+            place: 0,
+            next: at,
+        };
     };
-    TextRead::Is(TextAt::Phrase { own, place }, end)
-}
-
-// The bit behind a phrase that was read before.
-pub fn phrase_end(
-    plate: &[u8],
-    at: usize,
-    index: &[u32],
-    book: &[u8],
-    own: &[u8],
-    count: usize,
-) -> usize
-    requires { ⌜ Lent (now plate) (now index) (now book) (now own) count × (0 < getD (now index) 0 0 + count) × Known (phrase (bookTexts (now book)) (ownTexts count (now own)) (placeAt (now plate) at)) ⌝ }
-    ensures { λ r. ⌜ got 0 (placeAt (now (plate .entry)) r) ≡ endWith 0 (phrase (bookTexts (now (book .entry))) (ownTexts count (now (own .entry))) (placeAt (now (plate .entry)) at)) ⌝ }
-{
-    let source = read_source(plate, at, phrases::count_of(index), count);
-    let Source::Is { own: _, n, next } = source else {
-        return at;
-    };
-    let field = read_plain(plate, next, phrases::width_of(n));
-    let Field::Is(_, end) = field else {
-        return at;
-    };
-    end
+    PhraseAt {
+        own,
+        place,
+        next: end,
+    }
 }

@@ -1,8 +1,6 @@
 // The refusal that an answer is, for the `else` of a let. Nothing asks an answer that is no refusal.
 ghost use mathlib.Core.Path.{_≡_};
 ghost use Rattle.plate_texts.specs.Sources.{sourceRefusal};
-ghost use Rattle.plate_texts.specs.TextsAt.{textRefusal};
-use crate::TextRead;
 use crate::phrase_place::Source;
 use causes::Cause;
 use causes::Refusal;
@@ -14,20 +12,6 @@ impl Source {
         match self {
             Source::Refused(r) => r,
             Source::Is { own: _, n: _, next } => Refusal {
-                cause: Cause::PlateEnds,
-                place: next,
-            },
-        }
-    }
-}
-
-impl TextRead {
-    pub fn refusal(self) -> Refusal
-        ensures { λ r. ⌜ r ≡ textRefusal self ⌝ }
-    {
-        match self {
-            TextRead::Refused(r) => r,
-            TextRead::Is(_, next) => Refusal {
                 cause: Cause::PlateEnds,
                 place: next,
             },

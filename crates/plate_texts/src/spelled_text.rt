@@ -2,19 +2,17 @@
 ghost use mathlib.Core.Path.{_≡_};
 ghost use mathlib.Core.Bool.{_&&_};
 ghost use Prim.Native.Nat.{_≤_};
-ghost use lib.ListN.{length, drop};
-ghost use Rattle.bits.specs.Bits.{bytesBits};
+ghost use lib.ListN.{length};
 ghost use Rattle.text.specs.Text.{textSize};
 ghost use Rattle.phrases.specs.Phrases.{isNew};
 ghost use Rattle.phrases.specs.Lookup.{bookTexts, ownTexts};
 ghost use Rattle.phrases.specs.Index.{Indexed};
 ghost use Rattle.plate.specs.Plate.{spelled};
-ghost use Rattle.fields.specs.Places.{placeAt, sizeRead, charactersIn};
-ghost use Rattle.plate_texts.specs.TextsAt.{Known};
+ghost use Rattle.fields.specs.Places.{placeAt, sizeRead, untilETX, valuesOf, Known};
 use causes::Cause;
 use causes::Refusal;
 use fields::Field;
-use fields::put_characters;
+use fields::copy_each;
 use fields::read_size;
 use phrases::Found;
 
@@ -30,7 +28,7 @@ fn is_new(index: &[u32], book: &[u8], own: &[u8], count: usize, text: &[u8]) -> 
     }
 }
 
-// Whether so many characters from a bit on are 1 to 64, and no phrase.
+// Whether a text of so many characters from a bit on, up to ETX, has 1 to 64, and is no phrase.
 fn is_good(
     plate: &[u8],
     bit: usize,
@@ -40,8 +38,8 @@ fn is_good(
     own: &[u8],
     count: usize,
 ) -> bool
-    requires { ⌜ (length (now plate) ≤ 2953) × Indexed (now index) (now book) ⌝ }
-    ensures { λ r. ⌜ r ≡ (textSize (charactersIn size (drop bit (bytesBits (now (plate .entry))))) && isNew (bookTexts (now (book .entry))) (ownTexts count (now (own .entry))) (charactersIn size (drop bit (bytesBits (now (plate .entry)))))) ⌝ }
+    requires { ⌜ (length (now plate) ≤ 2953) × Indexed (now index) (now book) × Known (untilETX (placeAt (now plate) bit)) × (size ≡ length (valuesOf (untilETX (placeAt (now plate) bit)))) ⌝ }
+    ensures { λ r. ⌜ r ≡ (textSize (valuesOf (untilETX (placeAt (now (plate .entry)) bit))) && isNew (bookTexts (now (book .entry))) (ownTexts count (now (own .entry))) (valuesOf (untilETX (placeAt (now (plate .entry)) bit)))) ⌝ }
 {
     if size == 0 {
         return false;
@@ -55,7 +53,7 @@ fn is_good(
         }
     }
     let mut characters = [0u8; 64];
-    put_characters(plate, bit, size, &mut characters, 0);
+    copy_each(plate, bit, &mut characters, 0);
     is_new(index, book, own, count, &characters[..size])
 }
 

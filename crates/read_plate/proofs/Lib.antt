@@ -1,2 +1,1 @@
-pub mod LineNeeds
 pub mod Whole

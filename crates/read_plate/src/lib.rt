@@ -2,8 +2,8 @@
 // crate listing's specs/Listing.antt says which text a program is; its specs/Calls.antt what the call answers and leaves in the lent buffer.
 // The book is checked, unless it is empty, which makes its index, then the whole plate, and a refusal leaves the buffer as it was. Only a
 // plate with own phrases is given room for them, so that a small plate clears no large array. Then the own phrases and the instructions are
-// written, each line at the front of the buffer's unwritten tail; an instruction is read again from its bits, and a text is taken where it
-// stands. A buffer that holds the longest listing is written at once; else the listing is made twice: first on no buffer, to learn its
+// written, each line at the front of the buffer's unwritten tail; an instruction is read again from its bits, and a text is copied from the
+// plate. A buffer that holds the longest listing is written at once; else the listing is made twice: first on no buffer, to learn its
 // length, and then on the lent one.
 mod passes;
 mod phrase_lines;

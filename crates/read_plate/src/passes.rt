@@ -6,39 +6,54 @@ ghost use lib.ListN.{length};
 ghost use Rattle.causes.specs.Answers.{writtenAnswer, made, output, lent};
 ghost use Rattle.output.specs.Pour.{poured};
 ghost use Rattle.phrases.specs.Lookup.{phrasesIn};
+ghost use Rattle.plate.specs.Reading.{got};
 ghost use Rattle.plate.specs.Plate.{instruction};
+ghost use Rattle.fields.specs.Places.{placeAt, endWith, Known};
 ghost use Rattle.plate_texts.specs.TextsAt.{Lent};
-ghost use Rattle.instructions.specs.InstructionsAt.{instructionAt};
+ghost use Rattle.instructions.specs.Heads.{instructionOf};
 ghost use Rattle.reader.specs.Holding.{There, instructionsAt, programAt, Stands};
 ghost use Rattle.listing.specs.Listing.{instructionFields, linesText, listingText};
-ghost use Rattle.listing_lines.specs.Lines.{Ready};
 use crate::phrase_lines::put_phrases;
 use causes::Cause;
 use causes::Refusal;
 use causes::Written;
-use instructions::InstructionAt;
-use instructions::InstructionRead;
-use instructions::accepted_instruction;
+use fields::Copied;
 use listing_lines::put_instruction;
 use reader::Contents;
 
-// The line of an instruction at a place of the listing: its tail from there on, which is empty past the buffer's end, takes it.
+// The line of the instruction at a bit, written at a place of the listing: its tail from there on, which is empty past the buffer's end,
+// takes it.
 fn line_at<'a>(
     plate: &[u8],
+    bit: usize,
+    behind: usize,
     index: &'a [u32],
     book: &'a [u8],
     own: &'a [u8],
     count: usize,
-    i: InstructionAt,
     out: &mut [u8],
     at: usize,
-) -> usize
-    requires { ⌜ Lent (now plate) (now index) (now book) (now own) count × Ready (now plate) (now book) (now own) count i ⌝ }
-    ensures { λ r. ⌜ (r, now (out .exit)) ≡ poured at (linesText (instructionFields (instructionAt (now (plate .entry)) (now (book .entry)) (now (own .entry)) count i) ∷ [])) (now (out .entry)) ⌝ }
+) -> Copied
+    requires { ⌜ Lent (now plate) (now index) (now book) (now own) count × Known (instruction (phrasesIn (now book) (now own) count) behind (placeAt (now plate) bit)) ⌝ }
+    ensures { λ r. ⌜ (r .end, now (out .exit)) ≡ poured at (linesText (instructionFields (instructionOf (instruction (phrasesIn (now (book .entry)) (now (own .entry)) count) behind (placeAt (now (plate .entry)) bit))) ∷ [])) (now (out .entry)) ⌝ }
+    ensures { λ r. ⌜ got 0 (placeAt (now (plate .entry)) (r .next)) ≡ endWith 0 (instruction (phrasesIn (now (book .entry)) (now (own .entry)) count) behind (placeAt (now (plate .entry)) bit)) ⌝ }
 {
     let from = output::least(at, out.len());
-    let n = put_instruction(plate, index, book, own, count, i, &mut out[from..]);
-    output::sum(at, n)
+    let copied = put_instruction(
+        plate,
+        bit,
+        behind,
+        index,
+        book,
+        own,
+        count,
+        &mut out[from..],
+    );
+    let end = output::sum(at, copied.end);
+    Copied {
+        end,
+        next: copied.next,
+    }
 }
 
 // The lines of n instructions from a bit on. All are there, so none is refused.
@@ -60,12 +75,9 @@ fn put_instructions<'a>(
     let mut place = bit;
     let mut left = n;
     while 0 < left {
-        let read = accepted_instruction(plate, place, left - 1, index, book, own, count);
-        let InstructionRead::Is(i, next) = read else {
-            return end;
-        };
-        end = line_at(plate, index, book, own, count, i, out, end);
-        place = next;
+        let copied = line_at(plate, place, left - 1, index, book, own, count, out, end);
+        end = copied.end;
+        place = copied.next;
         left -= 1;
     }
     end

@@ -1,6 +1,4 @@
 pub mod Next
-pub mod Ranges
-pub mod Options
 pub mod OwnFirst
 pub mod OwnNumber
 pub mod OwnLines

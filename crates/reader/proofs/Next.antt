@@ -35,10 +35,6 @@ module _ {A : Type 0} (r : ℕ → Reader A) (plate : List ℕ) where
   there-values t = ap valuesOf (sym (t .read))
 
   -- none
-  pub there-none : (bit : ℕ) → There r plate 0 bit []
-  unfolding many return
-  there-none bit = record { end = placeAt plate bit; read = refl }
-
   pub there-no-more : {bit : ℕ} {xs : List A} → There r plate 0 bit xs → xs ≡ []
   unfolding many return
   there-no-more t = ap valuesOf (sym (t .read))

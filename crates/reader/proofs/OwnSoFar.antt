@@ -18,11 +18,19 @@ use Rattle.phrases.specs.Lookup.{bookTexts, ownTexts}
 use Rattle.plate.specs.Reading.{Place, got, stopped, return}
 use Rattle.plate.specs.Plate.{spelled, ownCount, ownFrom}
 use Rattle.plate.proofs.Spelled.{gives-spelled}
-use Rattle.fields.specs.Places.{placeAt}
+use Rattle.fields.specs.Places.{placeAt, untilETX}
 use Rattle.fields.proofs.Onward.{then-got, then-stopped, got-good}
 use Rattle.fields.proofs.Behind.{behind, behind-none, behind-one}
+use Rattle.fields.proofs.TextCopy.{got-known}
+use Rattle.plate_texts.proofs.Known.{known-judged}
 use Rattle.reader.specs.Own.{phraseLine, ownLines, whenRead, ownUntil, ownCounted, ownStored}
 use Rattle.reader.proofs.OwnLines.{lines-more, lines-texts, lines-length}
+
+-- the characters of a phrase that was read
+pub phrase-characters : (plate : List ℕ) (bit : ℕ) (book own : List Text) {t : Text} {q : Place}
+    → got t q ≡ spelled book own (placeAt plate bit) → got t q ≡ untilETX (placeAt plate bit)
+unfolding spelled
+phrase-characters plate bit book own e = e ∙ sym (known-judged untilETX _ _ plate bit (got-known e))
 
 -- k of them are read and written, and with those behind them they are all own phrases
 pub record OwnSoFar (plate book : List ℕ) (at count : ℕ) (old own : List ℕ) (bit end k : ℕ) : Type 0 where

@@ -18,7 +18,7 @@ use Rattle.plate.proofs.Readers.{gives-number, gives-judged}
 use Rattle.fields.specs.Places.{placeAt, endWith}
 use Rattle.fields.proofs.Onward.{then-got, then-stopped, got-good}
 use Rattle.plate_texts.proofs.Ended.{ended-stopped}
-use Rattle.instructions.proofs.FieldsRead.{ended-got}
+use Rattle.plate_texts.proofs.Ended.{ended-got}
 use Rattle.reader.specs.Holding.{There, instructionsAt}
 use Rattle.reader.specs.Own.{ownPhrases}
 use Rattle.reader.specs.Filled.{isFilling}

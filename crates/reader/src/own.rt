@@ -3,16 +3,15 @@
 ghost use mathlib.Core.Path.{_≡_};
 ghost use mathlib.Core.List.{[]};
 ghost use Prim.Native.Nat.{_*_, _≤_};
-ghost use lib.ListN.{length, drop};
+ghost use lib.ListN.{length};
 ghost use Rattle.output.specs.Pour.{pour, poured};
-ghost use Rattle.bits.specs.Bits.{bytesBits};
 ghost use Rattle.phrases.specs.Lookup.{bookTexts};
 ghost use Rattle.phrases.specs.Index.{Indexed};
 ghost use Rattle.plate.specs.Plate.{ownCount, ownFrom};
-ghost use Rattle.fields.specs.Places.{placeAt, fieldRead, charactersIn};
+ghost use Rattle.fields.specs.Places.{placeAt, fieldRead, untilETX, valuesOf, Known};
 ghost use Rattle.reader.specs.Own.{hasOwn, OwnRoom, phraseLine, ownPhrases, ownRead, OwnThere, ownLines, ownUntil, ownCounted};
 use fields::Field;
-use fields::put_characters;
+use fields::copy_each;
 use fields::read_plain;
 use plate_texts::read_spelled;
 
@@ -45,14 +44,14 @@ fn read_count(plate: &[u8], at: usize) -> Field
     Field::Is(less + 1, end)
 }
 
-// A line `phrase,TEXT` of so many characters from a bit on.
-fn put_phrase(plate: &[u8], bit: usize, size: usize, own: &mut [u8], at: usize) -> usize
-    requires { ⌜ length (now plate) ≤ 2953 ⌝ }
-    ensures { λ r. ⌜ (r, now (own .exit)) ≡ poured at (phraseLine (charactersIn size (drop bit (bytesBits (now (plate .entry)))))) (now (own .entry)) ⌝ }
+// A line `phrase,TEXT` of the characters from a bit on, up to ETX.
+fn put_phrase(plate: &[u8], bit: usize, own: &mut [u8], at: usize) -> usize
+    requires { ⌜ (length (now plate) ≤ 2953) × Known (untilETX (placeAt (now plate) bit)) ⌝ }
+    ensures { λ r. ⌜ (r, now (own .exit)) ≡ poured at (phraseLine (valuesOf (untilETX (placeAt (now (plate .entry)) bit)))) (now (own .entry)) ⌝ }
 {
     let text_at = text_out::put(own, at, b"phrase,");
-    let end = put_characters(plate, bit, size, own, text_at);
-    text_out::put_byte(own, end, b'\n')
+    let copied = copy_each(plate, bit, own, text_at);
+    text_out::put_byte(own, copied.end, b'\n')
 }
 
 // So many own phrases from a bit on. `own` has room for a line of 72 bytes for each.
@@ -74,10 +73,10 @@ fn read_phrases(
     let mut k = 0;
     while k < count {
         let field = read_spelled(plate, bit, index, book, own, k);
-        let Field::Is(size, next) = field else {
+        let Field::Is(_, next) = field else {
             return field;
         };
-        end = put_phrase(plate, bit, size, own, end);
+        end = put_phrase(plate, bit, own, end);
         bit = next;
         k += 1;
     }

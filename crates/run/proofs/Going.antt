@@ -5,7 +5,6 @@ use mathlib.Core.List.{List, [], _∷_}
 use mathlib.Core.Bool.{cond}
 use lib.ListN.{length}
 use lib.IntN.{ℤ}
-use Rattle.causes.specs.declared.Refusal.{Refusal}
 use Rattle.causes.specs.declared.Outcome.{Outcome}
 use Rattle.causes.specs.declared.Outcome.the-variants.{End}
 use Rattle.phrases.specs.Lookup.{phrasesIn}
@@ -19,19 +18,16 @@ use Rattle.machine.proofs.Lay.{lay-here}
 use Rattle.machine.proofs.Follow.{lay-ended, lay-goes}
 use Rattle.plate.specs.Program.{Instruction, statement, goto, ifSkip}
 use Rattle.plate.specs.Plate as reader
-use Rattle.plate.specs.Reading.{got}
-use Rattle.fields.specs.Places.{placeAt}
-use Rattle.instructions.specs.declared.InstructionAt.{InstructionAt}
-use Rattle.instructions.specs.declared.InstructionRead.{InstructionRead}
-use Rattle.instructions.specs.declared.InstructionRead.the-variants as instructions
-use Rattle.plate_texts.specs.TextsAt.{Known}
-use Rattle.instructions.specs.InstructionsAt.{instructionAt, instructionRead}
+use Rattle.plate.specs.Reading.{Read, got}
+use Rattle.fields.specs.Places.{placeAt, endWith, Known}
+use Rattle.plate_texts.proofs.Ended.{ended-some}
+use Rattle.instructions.specs.Heads.{instructionOf}
 use Rattle.reader.specs.declared.Contents.{Contents}
 use Rattle.reader.specs.Holding.{instructionsAt, programAt}
 use Rattle.running.specs.Run.{run}
 use Rattle.run_steps.specs.Meets.{leftBy, overBy}
 use Rattle.run.specs.Accepted.{instructionsFrom, Continues}
-use Rattle.run_steps.proofs.Nexts.{next-read, next-there, none-left}
+use Rattle.run.proofs.Nexts.{next-read, next-there, none-left}
 use Rattle.run_steps.proofs.Meeting.{run-first}
 
 -- ---- a run only adds to the transcript
@@ -67,36 +63,33 @@ module _ (rs answers : List ℤ) (p : Performed) (o : List ℕ) (at over : ℕ) 
 -- ---- the instructions, one by one
 
 module _ (plate book own : List ℕ) (count : ℕ) where
+  -- the first instruction, with so many left
+  abbrev firstOf : ℕ → ℕ → Read Instruction
+  firstOf left bit = reader.instruction (phrasesIn book own count) (left - 1) (placeAt plate bit)
+
   -- the first of them, and the others
-  pub record Following (left bit next : ℕ) (i : InstructionAt) : Type 0 where
+  pub record Following (left bit next : ℕ) : Type 0 where
     pub split : instructionsFrom plate book own count left bit
-        ≡ instructionAt plate book own count i ∷ instructionsFrom plate book own count (left - 1) next
+        ≡ instructionOf (firstOf left bit) ∷ instructionsFrom plate book own count (left - 1) next
     pub others : Continues plate book own count (left - 1) next
 
   module _ (left bit : ℕ) (t : Continues plate book own count left bit) where
     -- the first of them is known to be good
-    pub instruction-known : 0 < left → Known (reader.instruction (phrasesIn book own count) (left - 1) (placeAt plate bit))
+    pub instruction-known : 0 < left → Known (firstOf left bit)
     unfolding instructionsAt
     instruction-known h =
         record { good = λ e. next-there (reader.instruction (phrasesIn book own count)) plate left bit t h e }
 
-    module _ (f : InstructionRead)
-        (e : instructionRead plate book own count f ≡ reader.instruction (phrasesIn book own count) (left - 1) (placeAt plate bit)) where
-      pub instruction-got : {i : InstructionAt} {next : ℕ} → f ≡ instructions.Is i next
-          → got (instructionAt plate book own count i) (placeAt plate next) ≡ reader.instruction (phrasesIn book own count) (left - 1) (placeAt plate bit)
-      instruction-got k = ap (instructionRead plate book own count) (sym k) ∙ e
-
-      pub following : {i : InstructionAt} {next : ℕ} → 0 < left → f ≡ instructions.Is i next → Following left bit next i
-      unfolding instructionsAt
-      following {i} {next} h k =
-          let x = next-read (reader.instruction (phrasesIn book own count)) plate left bit next t h (instruction-got k) in
-          record { split = x .split; others = x .others }
-
-      -- an instruction that is there is not refused
-      pub instruction-there : {r : Refusal} → 0 < left → f ≡ instructions.Refused r → ⊥
-      unfolding instructionsAt
-      instruction-there h k =
-          next-there (reader.instruction (phrasesIn book own count)) plate left bit t h (ap (instructionRead plate book own count) (sym k) ∙ e)
+    -- the others stand behind it
+    pub following : (next : ℕ) → 0 < left → got 0 (placeAt plate next) ≡ endWith 0 (firstOf left bit) → Following left bit next
+    unfolding instructionsAt
+    following next h e =
+        let f = ended-some 0 0 (placeAt plate next) (firstOf left bit) e in
+        let x = next-read (reader.instruction (phrasesIn book own count)) plate left bit next t h (f .1) in
+        record {
+          split = x .split ∙ ap (λ i. i ∷ instructionsFrom plate book own count (left - 1) next) (ap instructionOf (f .1));
+          others = x .others;
+        }
 
     -- "the run ends at n"
     pub lay-done : (rs answers : List ℤ) (p : Performed) (over : ℕ) (out : List ℕ) → p .outcome ≡ End → left ≡ 0 → p .end ≤ 18446744073709551615

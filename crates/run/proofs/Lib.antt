@@ -1,4 +1,4 @@
-pub mod Accepting
+pub mod Nexts
 pub mod Going
 pub mod Called
 pub mod Short

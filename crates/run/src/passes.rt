@@ -3,8 +3,6 @@ use causes::Cause;
 use causes::Outcome;
 use causes::Ran;
 use causes::Refusal;
-use instructions::InstructionRead;
-use instructions::accepted_instruction;
 use reader::Contents;
 use run_steps::meet;
 use transcript::Performed;
@@ -44,18 +42,14 @@ fn run_from<'a>(
     let mut left = n;
     let mut over = 0;
     while 0 < left {
-        // Never refused: the whole plate has been read.
-        let read = accepted_instruction(plate, bit, left - 1, index, book, own, count);
-        let InstructionRead::Is(i, next) = read else {
-            return p;
-        };
         let met = meet(
             plate,
+            bit,
+            left - 1,
             index,
             book,
             own,
             count,
-            i,
             over,
             answers,
             registers,
@@ -68,7 +62,7 @@ fn run_from<'a>(
             return q;
         };
         p = q;
-        bit = next;
+        bit = met.next;
         left -= 1;
         over = met.over;
     }

@@ -1,5 +1,2 @@
-pub mod Handed
-pub mod Nexts
-pub mod Offering
-pub mod Saying
 pub mod Meeting
+pub mod Performing

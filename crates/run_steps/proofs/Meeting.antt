@@ -3,22 +3,21 @@ use Prim.Native.Nat.{ℕ, zero, suc, _-_, _≤_, _<_}
 use native.Mathlib.Numerals.{sub-one}
 use native.Mathlib.Omega.{arith}
 use mathlib.Core.Path.{_≡_, refl, sym, ap, _∙_}
-use mathlib.Core.List.{List, [], _∷_}
+use mathlib.Core.List.{List, _∷_}
 use mathlib.Core.Bool.{true, false}
-use types.Run.{OneOf, miss}
-use denote.Enum.Declared.{tagOf}
+use Rattle.phrases.specs.Phrases.{Phrases}
 use Rattle.transcript.specs.declared.Test.{Test}
 use Rattle.transcript.specs.State.{State, step}
-use Rattle.transcript.specs.Perform.{Ending, goesOn, andThen, perform, holds}
+use Rattle.transcript.specs.Perform.{Ending, goesOn, andThen, holds}
 use Rattle.transcript.specs.Machine.{Laid, laid}
 use Rattle.plate.specs.Program.{Instruction, statement, goto, ifSkip}
-use Rattle.instructions.proofs.InstructionAt.{the-type}
-use Rattle.instructions.specs.declared.InstructionAt.{InstructionAt}
-use Rattle.instructions.specs.declared.InstructionAt.the-variants.{Input, Inputs, Print, Printex, Goto, IfSkip}
-use Rattle.instructions.specs.InstructionsAt.{instructionAt}
+use Rattle.plate.specs.Reading.{Place, Read, got}
+use Rattle.fields.specs.Places.{endWith, Known}
+use Rattle.plate_texts.proofs.Known.{known-same}
+use Rattle.instructions.specs.declared.Head.{Head}
+use Rattle.instructions.specs.Heads.{headed, instructionOf}
 use Rattle.running.specs.Run.{run}
-use Rattle.run_steps.specs.Says.{statementOf, Says}
-use Rattle.run_steps.specs.Meets.{leftBy, overBy, Meets}
+use Rattle.run_steps.specs.Meets.{leftBy, overBy}
 
 -- a run is its first instruction, and then the others
 pub run-first : (over : ℕ) (x : Instruction) (xs : List Instruction) (s : State)
@@ -28,18 +27,6 @@ run-first (suc over) x xs s = refl
 run-first zero (statement x) xs s = refl
 run-first zero (goto skip) xs s = refl
 run-first zero (ifSkip test skip) xs s = refl
-
--- ---- what it asks
-
--- a statement, as a match leaves it
-pub meets-says : (plate book own : List ℕ) (count : ℕ) (i : InstructionAt) → Meets plate book own count i
-    → OneOf (0 ∷ (1 ∷ (2 ∷ (3 ∷ [])))) (tagOf the-type i) → Says plate book own count i
-meets-says plate book own count (Input r t) v k = v
-meets-says plate book own count (Inputs r t n bit) v k = v
-meets-says plate book own count (Print t) v k = v
-meets-says plate book own count (Printex t) v k = v
-meets-says plate book own count (Goto skip) v k = absurd (miss (0 ∷ (1 ∷ (2 ∷ (3 ∷ [])))) 4 tt k)
-meets-says plate book own count (IfSkip test skip) v k = absurd (miss (0 ∷ (1 ∷ (2 ∷ (3 ∷ [])))) 5 tt k)
 
 -- ---- passed over
 
@@ -57,58 +44,62 @@ module _ (x : Instruction) (s : State) where
   pub lay-over : (over at : ℕ) (out : List ℕ) (p : Laid) → p ≡ laid at (goesOn s) out → 0 < over → p ≡ laid at (leftBy over x s) out
   lay-over over at out p e h = e ∙ ap (λ (e : Ending). laid at e out) (left-over over h)
 
--- ---- met
+  -- none is passed over
+  pub lay-none : (over at : ℕ) (out : List ℕ) (p : Laid) → p ≡ laid at (leftBy 0 x s) out → over ≤ 0 → p ≡ laid at (leftBy over x s) out
+  lay-none over at out p e h = let z : over ≡ 0 = omega arith in rw z e
 
-module _ (plate book own : List ℕ) (count over : ℕ) (i : InstructionAt) (s : State) (none : over ≤ 0) where
-  zero-over : over ≡ 0
-  zero-over = omega arith
+  pub over-none : (over k : ℕ) → k ≡ overBy 0 x s → over ≤ 0 → k ≡ overBy over x s
+  over-none over k e h = let z : over ≡ 0 = omega arith in rw z e
 
-  -- a goto
-  module _ {skip : ℕ} (e : i ≡ Goto skip) where
-    pub lay-goto : (at : ℕ) (out : List ℕ) (p : Laid) (n : State) → p ≡ laid at (goesOn n) out → n ≡ step s
-        → p ≡ laid at (leftBy over (instructionAt plate book own count i) s) out
-    unfolding leftBy instructionAt
-    lay-goto at out p n h k = rw (zero-over, e) (rw k at h)
+-- ---- a jump
 
-    pub over-goto : skip ≡ overBy over (instructionAt plate book own count i) s
-    unfolding overBy instructionAt
-    over-goto = rw (zero-over, e)
+-- the run goes on in a state that is the same
+pub lay-stepped : (at : ℕ) (out : List ℕ) (p : Laid) (n s : State) → p ≡ laid at (goesOn n) out → n ≡ s → p ≡ laid at (goesOn s) out
+lay-stepped at out p n s h k = h ∙ ap (λ (s : State). laid at (goesOn s) out) k
 
-  -- an if
-  module _ {test : Test} {skip : ℕ} (e : i ≡ IfSkip test skip) where
-    pub lay-if : (at : ℕ) (out : List ℕ) (p : Laid) (n : State) → p ≡ laid at (goesOn n) out → n ≡ step s
-        → p ≡ laid at (leftBy over (instructionAt plate book own count i) s) out
-    unfolding leftBy instructionAt
-    lay-if at out p n h k = rw (zero-over, e) (rw k at h)
+-- a goto
+module _ {i : Instruction} {skip : ℕ} (e : i ≡ goto skip) (s : State) where
+  pub lay-goto : (at : ℕ) (out : List ℕ) (p : Laid) (n : State) → p ≡ laid at (goesOn n) out → n ≡ step s → p ≡ laid at (leftBy 0 i s) out
+  unfolding leftBy
+  lay-goto at out p n h k = rw e (rw k at h)
 
-    pub over-held : true ≡ holds test s → 0 ≡ overBy over (instructionAt plate book own count i) s
-    unfolding overBy instructionAt
-    over-held v = rw (zero-over, e, sym v)
+  pub over-goto : skip ≡ overBy 0 i s
+  unfolding overBy
+  over-goto = rw e
 
-    pub over-not-held : false ≡ holds test s → skip ≡ overBy over (instructionAt plate book own count i) s
-    unfolding overBy instructionAt
-    over-not-held v = rw (zero-over, e, sym v)
+-- an if
+module _ (test : Test) (skip : ℕ) (s : State) where
+  pub lay-if : {i : Instruction} → i ≡ ifSkip test skip → (at : ℕ) (out : List ℕ) (p : Laid) → p ≡ laid at (goesOn (step s)) out → p ≡ laid at (leftBy 0 i s) out
+  unfolding leftBy
+  lay-if e at out p h = rw e h
 
-  -- a statement
-  module _ (k : OneOf (0 ∷ (1 ∷ (2 ∷ (3 ∷ [])))) (tagOf the-type i)) where
-    the-statement : (j : InstructionAt) → i ≡ j → instructionAt plate book own count i ≡ statement (statementOf (instructionAt plate book own count i))
-    unfolding instructionAt
-    the-statement (Input r t) e = rw e
-    the-statement (Inputs r t n bit) e = rw e
-    the-statement (Print t) e = rw e
-    the-statement (Printex t) e = rw e
-    the-statement (Goto skip) e = absurd (miss (0 ∷ (1 ∷ (2 ∷ (3 ∷ [])))) 4 tt (rw e at k))
-    the-statement (IfSkip test skip) e = absurd (miss (0 ∷ (1 ∷ (2 ∷ (3 ∷ [])))) 5 tt (rw e at k))
+  pub over-if : {i : Instruction} {k : ℕ} → i ≡ ifSkip test skip → k ≡ overBy 0 (ifSkip test skip) s → k ≡ overBy 0 i s
+  over-if e h = rw e h
 
-    pub lay-statement : (at : ℕ) (out : List ℕ) (p : Laid) → p ≡ laid at (perform (statementOf (instructionAt plate book own count i)) s) out
-        → p ≡ laid at (leftBy over (instructionAt plate book own count i) s) out
-    unfolding leftBy
-    lay-statement at out p h =
-        h ∙ ap (λ (x : Instruction). laid at (leftBy 0 x s) out) (sym (the-statement i refl))
-        ∙ ap (λ (n : ℕ). laid at (leftBy n (instructionAt plate book own count i) s) out) (sym zero-over)
+  pub over-held : true ≡ holds test s → 0 ≡ overBy 0 (ifSkip test skip) s
+  unfolding overBy
+  over-held v = rw (sym v)
 
-    pub over-statement : 0 ≡ overBy over (instructionAt plate book own count i) s
-    unfolding overBy
-    over-statement =
-        ap (λ (x : Instruction). overBy 0 x s) (sym (the-statement i refl))
-        ∙ ap (λ (n : ℕ). overBy n (instructionAt plate book own count i) s) (sym zero-over)
+  pub over-not-held : false ≡ holds test s → skip ≡ overBy 0 (ifSkip test skip) s
+  unfolding overBy
+  over-not-held v = rw (sym v)
+
+-- ---- by its head
+
+-- m is the instruction that the head h begins, which the code finds to be k
+module _ (plate : List ℕ) (c : Phrases) {h k : Head} {m : Read Instruction} (e : headed plate c h ≡ m) (f : h ≡ k) where
+  by-head : headed plate c k ≡ m
+  by-head = ap (headed plate c) (sym f) ∙ e
+
+  pub head-known : Known m → Known (headed plate c k)
+  head-known w = known-same by-head w
+
+  pub head-left : (s : State) (at : ℕ) (out : List ℕ) (p : Laid) → p ≡ laid at (leftBy 0 (instructionOf (headed plate c k)) s) out
+      → p ≡ laid at (leftBy 0 (instructionOf m) s) out
+  head-left s at out p g = g ∙ ap (λ m. laid at (leftBy 0 (instructionOf m) s) out) by-head
+
+  pub head-over : (s : State) {n : ℕ} → n ≡ overBy 0 (instructionOf (headed plate c k)) s → n ≡ overBy 0 (instructionOf m) s
+  head-over s g = g ∙ ap (λ m. overBy 0 (instructionOf m) s) by-head
+
+  pub head-end : {q : Place} → got 0 q ≡ endWith 0 (headed plate c k) → got 0 q ≡ endWith 0 m
+  head-end g = g ∙ ap (endWith 0) by-head

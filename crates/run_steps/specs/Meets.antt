@@ -1,13 +1,9 @@
 -- One instruction of a run, with so many still to be passed over.
-use Prim.Native.Nat.{ℕ, zero, suc, _<_}
-use mathlib.Core.List.{List}
+use Prim.Native.Nat.{ℕ, zero, suc}
 use mathlib.Core.Bool.{cond}
 use Rattle.transcript.specs.State.{State, step}
 use Rattle.transcript.specs.Perform.{Ending, goesOn, perform, holds}
 use Rattle.plate.specs.Program.{Instruction, statement, goto, ifSkip}
-use Rattle.instructions.specs.declared.InstructionAt.{InstructionAt}
-use Rattle.instructions.specs.declared.InstructionAt.the-variants.{Input, Inputs, Print, Printex, Goto, IfSkip}
-use Rattle.run_steps.specs.Says.{Says}
 
 -- how it is left; "Each instruction met is one step"
 unfoldable pub leftBy : ℕ → Instruction → State → Ending
@@ -22,12 +18,3 @@ overBy (suc over) i s = over
 overBy zero (statement x) s = 0
 overBy zero (goto skip) s = skip
 overBy zero (ifSkip test skip) s = cond (holds test s) 0 skip
-
--- what meeting it asks: of a statement what performing it asks, and a register that is one of the 32
-abbrev pub Meets : List ℕ → List ℕ → List ℕ → ℕ → InstructionAt → Type 0
-Meets plate book own count (Input r t) = Says plate book own count (Input r t)
-Meets plate book own count (Inputs r t n bit) = Says plate book own count (Inputs r t n bit)
-Meets plate book own count (Print t) = Says plate book own count (Print t)
-Meets plate book own count (Printex t) = Says plate book own count (Printex t)
-Meets plate book own count (Goto k) = Unit
-Meets plate book own count (IfSkip test k) = test .register < 32

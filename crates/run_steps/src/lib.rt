@@ -1,91 +1,165 @@
 // An instruction of a run: passed over, performed, or a jump.
-// A text of the plate is handed on as bytes: its characters are spelled out, a phrase is a part of the book or of the own phrases. `meet` answers
-// what specs/Meets.antt says: how the instruction is left, with the transcript in the lent buffer, and how many behind it are passed over. The
-// plate has been read and accepted, so all that the instruction names is there, and one step more must still fit a 64-bit number.
+// An instruction is read as it is met: its head, and behind it the texts, which are copied straight from the plate into the transcript. `meet`
+// answers what specs/Meets.antt says: how the instruction is left, with the transcript in the lent buffer, how many behind it are passed over,
+// and the bit behind it. The plate has been read and accepted, so the instruction is there, and one step more must still fit a 64-bit number.
 mod perform;
-mod texts;
 
-use crate::perform::perform;
+use crate::perform::ask;
+use crate::perform::offer;
+use crate::perform::rule;
+use crate::perform::show;
 use causes::Outcome;
-use instructions::InstructionAt;
+use instructions::Head;
+use instructions::accepted_end;
+use instructions::accepted_head;
 use transcript::Machine;
 use transcript::Performed;
+use transcript::Test;
 ghost use mathlib.Core.Path.{_≡_};
 ghost use mathlib.Core.List.{List};
 ghost use Prim.Native.Nat.{ℕ, _+_, _≤_, _<_};
 ghost use lib.IntN.{ℤ};
+ghost use Rattle.phrases.specs.Lookup.{phrasesIn};
+ghost use Rattle.transcript.specs.State.{step};
 ghost use Rattle.transcript.specs.Perform.{goesOn};
 ghost use Rattle.transcript.specs.Machine.{machineState, laid, performed};
+ghost use Rattle.plate.specs.Program.{ifSkip};
+ghost use Rattle.plate.specs.Reading.{got};
+ghost use Rattle.plate.specs.Plate.{instruction};
+ghost use Rattle.fields.specs.Places.{placeAt, endWith, Known};
 ghost use Rattle.plate_texts.specs.TextsAt.{Lent};
-ghost use Rattle.instructions.specs.InstructionsAt.{instructionAt};
-ghost use Rattle.run_steps.specs.Meets.{leftBy, overBy, Meets};
+ghost use Rattle.instructions.specs.Heads.{instructionOf};
+ghost use Rattle.run_steps.specs.Meets.{leftBy, overBy};
 
-// What an instruction leaves: the machine, the outcome and the transcript's end, and how many instructions behind it are passed over.
+// What an instruction leaves: the machine, the outcome and the transcript's end, how many instructions behind it are passed over, and the
+// bit behind it.
 pub struct Met {
     pub left: Performed,
     pub over: usize,
+    pub next: usize,
 }
 
-// The run goes on, with so many instructions to be passed over.
-fn go_on(m: Machine, end: usize, over: usize) -> Met
+// The run goes on at a bit, with so many instructions to be passed over.
+fn go_on(m: Machine, end: usize, over: usize, next: usize) -> Met
     ensures { λ r. ⌜ ((registers answers : List ℤ) (out : List ℕ) → performed registers answers (r .left) out ≡ laid end (goesOn (machineState registers answers m)) out) ⌝ }
-    ensures { λ r. ⌜ (r .over ≡ over) × (r .left .machine .steps ≡ m .steps) ⌝ }
+    ensures { λ r. ⌜ (r .over ≡ over) × (r .next ≡ next) × (r .left .machine .steps ≡ m .steps) ⌝ }
 {
     let left = Performed {
         machine: m,
         outcome: Outcome::End,
         end,
     };
-    Met { left, over }
+    Met { left, over, next }
 }
 
-// An instruction, with so many still to be passed over, behind what has been performed.
-pub fn meet<'a>(
+// An if: where its test holds, the run goes on behind it.
+fn decide(registers: &[i32; 32], test: Test, skip: usize, next: usize, m: Machine, at: usize) -> Met
+    requires { ⌜ (test .register < 32) × (m .steps < 18446744073709551615) ⌝ }
+    ensures { λ r. ⌜ ((answers : List ℤ) (out : List ℕ) → performed (now (registers .entry)) answers (r .left) out ≡ laid at (goesOn (step (machineState (now (registers .entry)) answers m))) out) ⌝ }
+    ensures { λ r. ⌜ ((answers : List ℤ) → r .over ≡ overBy 0 (ifSkip test skip) (machineState (now (registers .entry)) answers m)) ⌝ }
+    ensures { λ r. ⌜ (r .next ≡ next) × (r .left .machine .steps ≡ m .steps + 1) ⌝ }
+{
+    let n = machine::stepped(m);
+    if machine::holds(registers, test) {
+        return go_on(n, at, 0, next);
+    }
+    go_on(n, at, skip, next)
+}
+
+// An instruction that is not passed over.
+fn perform_next<'a>(
     plate: &[u8],
+    bit: usize,
+    behind: usize,
     index: &'a [u32],
     book: &'a [u8],
     own: &'a [u8],
     count: usize,
-    i: InstructionAt,
+    answers: &[i32],
+    registers: &mut [i32; 32],
+    out: &mut [u8],
+    at: usize,
+    m: Machine,
+) -> Met
+    requires { ⌜ Lent (now plate) (now index) (now book) (now own) count × Known (instruction (phrasesIn (now book) (now own) count) behind (placeAt (now plate) bit)) × (m .steps < 18446744073709551615) ⌝ }
+    ensures { λ r. ⌜ performed (now (registers .exit)) (now (answers .entry)) (r .left) (now (out .exit)) ≡ laid at (leftBy 0 (instructionOf (instruction (phrasesIn (now (book .entry)) (now (own .entry)) count) behind (placeAt (now (plate .entry)) bit))) (machineState (now (registers .entry)) (now (answers .entry)) m)) (now (out .entry)) ⌝ }
+    ensures { λ r. ⌜ (r .over ≡ overBy 0 (instructionOf (instruction (phrasesIn (now (book .entry)) (now (own .entry)) count) behind (placeAt (now (plate .entry)) bit))) (machineState (now (registers .entry)) (now (answers .entry)) m)) × (r .left .machine .steps ≡ m .steps + 1) ⌝ }
+    ensures { λ r. ⌜ got 0 (placeAt (now (plate .entry)) (r .next)) ≡ endWith 0 (instruction (phrasesIn (now (book .entry)) (now (own .entry)) count) behind (placeAt (now (plate .entry)) bit)) ⌝ }
+{
+    match accepted_head(plate, bit) {
+        Head::Input { register, text } => ask(
+            plate,
+            text,
+            index,
+            book,
+            own,
+            count,
+            register,
+            answers,
+            registers,
+            out,
+            at,
+            m,
+        ),
+        Head::Inputs { register, text } => offer(
+            plate,
+            text,
+            index,
+            book,
+            own,
+            count,
+            register,
+            answers,
+            registers,
+            out,
+            at,
+            m,
+        ),
+        Head::Print { text } => show(plate, text, index, book, own, count, out, at, m),
+        Head::Printex { text } => rule(plate, text, index, book, own, count, out, at, m),
+        Head::Goto { skip, next } => go_on(machine::stepped(m), at, skip, next),
+        Head::IfSkip { test, skip, next } => decide(registers, test, skip, next, m, at),
+    }
+}
+
+// An instruction with so many behind it, and so many still to be passed over, behind what has been performed.
+pub fn meet<'a>(
+    plate: &[u8],
+    bit: usize,
+    behind: usize,
+    index: &'a [u32],
+    book: &'a [u8],
+    own: &'a [u8],
+    count: usize,
     over: usize,
     answers: &[i32],
     registers: &mut [i32; 32],
     out: &mut [u8],
     begun: Performed,
 ) -> Met
-    requires { ⌜ Lent (now plate) (now index) (now book) (now own) count × Meets (now plate) (now book) (now own) count i × (begun .machine .steps < 18446744073709551615) ⌝ }
-    ensures { λ r. ⌜ performed (now (registers .exit)) (now (answers .entry)) (r .left) (now (out .exit)) ≡ laid (begun .end) (leftBy over (instructionAt (now (plate .entry)) (now (book .entry)) (now (own .entry)) count i) (machineState (now (registers .entry)) (now (answers .entry)) (begun .machine))) (now (out .entry)) ⌝ }
-    ensures { λ r. ⌜ (r .over ≡ overBy over (instructionAt (now (plate .entry)) (now (book .entry)) (now (own .entry)) count i) (machineState (now (registers .entry)) (now (answers .entry)) (begun .machine))) × (r .left .machine .steps ≤ begun .machine .steps + 1) ⌝ }
+    requires { ⌜ Lent (now plate) (now index) (now book) (now own) count × Known (instruction (phrasesIn (now book) (now own) count) behind (placeAt (now plate) bit)) × (begun .machine .steps < 18446744073709551615) ⌝ }
+    ensures { λ r. ⌜ performed (now (registers .exit)) (now (answers .entry)) (r .left) (now (out .exit)) ≡ laid (begun .end) (leftBy over (instructionOf (instruction (phrasesIn (now (book .entry)) (now (own .entry)) count) behind (placeAt (now (plate .entry)) bit))) (machineState (now (registers .entry)) (now (answers .entry)) (begun .machine))) (now (out .entry)) ⌝ }
+    ensures { λ r. ⌜ (r .over ≡ overBy over (instructionOf (instruction (phrasesIn (now (book .entry)) (now (own .entry)) count) behind (placeAt (now (plate .entry)) bit))) (machineState (now (registers .entry)) (now (answers .entry)) (begun .machine))) × (r .left .machine .steps ≤ begun .machine .steps + 1) ⌝ }
+    ensures { λ r. ⌜ got 0 (placeAt (now (plate .entry)) (r .next)) ≡ endWith 0 (instruction (phrasesIn (now (book .entry)) (now (own .entry)) count) behind (placeAt (now (plate .entry)) bit)) ⌝ }
 {
     let at = begun.end;
     let m = begun.machine;
     if 0 < over {
-        return go_on(m, at, over - 1);
+        let next = accepted_end(plate, bit, behind, index, book, own, count);
+        return go_on(m, at, over - 1, next);
     }
-    match i {
-        InstructionAt::Goto { skip } => go_on(machine::stepped(m), at, skip),
-        InstructionAt::IfSkip { test, skip } => {
-            let n = machine::stepped(m);
-            if machine::holds(registers, test) {
-                return go_on(n, at, 0);
-            }
-            go_on(n, at, skip)
-        }
-        _ => {
-            let left = perform(
-                plate,
-                index,
-                book,
-                own,
-                count,
-                i,
-                answers,
-                registers,
-                out,
-                at,
-                m,
-            );
-            Met { left, over: 0 }
-        }
-    }
+    perform_next(
+        plate,
+        bit,
+        behind,
+        index,
+        book,
+        own,
+        count,
+        answers,
+        registers,
+        out,
+        at,
+        m,
+    )
 }

@@ -1,133 +1,162 @@
-// An instruction's statement.
-use crate::texts::spell;
-use crate::texts::text_of;
-use instructions::InstructionAt;
-use plate_texts::TextAt;
-use plate_texts::TextRead;
+// An instruction's statement: its line is written straight from the plate, and then the statement is left.
+// Each answers what the instruction leaves that its head begins.
+use crate::Met;
+use causes::Outcome;
+use fields::Copied;
+use plate_texts::copy_options;
+use plate_texts::copy_text;
 use transcript::Machine;
-use transcript::Performed;
 ghost use mathlib.Core.Path.{_≡_};
+ghost use mathlib.Core.List.{List, [], _∷_, _++_};
 ghost use Prim.Native.Nat.{_+_, _<_};
+ghost use lib.IntN.{ℤ};
 ghost use Rattle.output.specs.Pour.{poured};
-ghost use Rattle.transcript.specs.State.{offered, lineBytes};
-ghost use Rattle.transcript.specs.Perform as statement;
+ghost use Rattle.text.specs.Parts.{LF};
+ghost use Rattle.phrases.specs.Lookup.{phrasesIn};
+ghost use Rattle.transcript.specs.State.{State};
 ghost use Rattle.transcript.specs.Machine.{machineState, laid, performed};
-ghost use Rattle.transcript.specs.Offered.{optionsBytes};
+ghost use Rattle.plate.specs.Reading.{got};
+ghost use Rattle.plate.specs.Plate as reader;
+ghost use Rattle.fields.specs.Places.{placeAt, endWith, valuesOf, Known};
 ghost use Rattle.plate_texts.specs.TextsAt.{Lent};
-ghost use Rattle.instructions.specs.InstructionsAt.{instructionAt};
-ghost use Rattle.run_steps.specs.Says.{statementOf, statementText, textsAt, Offers, Says};
+ghost use Rattle.instructions.specs.declared.Head.the-variants.{Input, Inputs, Print, Printex};
+ghost use Rattle.instructions.specs.Heads.{headed, instructionOf};
+ghost use Rattle.run_steps.specs.Meets.{leftBy, overBy};
 
-// The options of inputs, so many from a bit on.
-fn put_options<'a>(
+// A line: what it begins with, a text of the plate, and LF.
+fn put_line<'a>(
     plate: &[u8],
+    bit: usize,
     index: &'a [u32],
     book: &'a [u8],
     own: &'a [u8],
     count: usize,
-    options: usize,
-    bit: usize,
+    front: &[u8],
     out: &mut [u8],
     at: usize,
-) -> usize
-    requires { ⌜ Lent (now plate) (now index) (now book) (now own) count × Offers (now plate) (now book) (now own) count options bit ⌝ }
-    ensures { λ r. ⌜ (r, now (out .exit)) ≡ poured at (optionsBytes (textsAt (now (plate .entry)) (now (book .entry)) (now (own .entry)) count options bit)) (now (out .entry)) ⌝ }
+) -> Copied
+    requires { ⌜ Lent (now plate) (now index) (now book) (now own) count × Known (reader.text (phrasesIn (now book) (now own) count) (placeAt (now plate) bit)) ⌝ }
+    ensures { λ r. ⌜ (r .end, now (out .exit)) ≡ poured at ((now (front .entry) ++ valuesOf (reader.text (phrasesIn (now (book .entry)) (now (own .entry)) count) (placeAt (now (plate .entry)) bit))) ++ (LF ∷ [])) (now (out .entry)) ⌝ }
+    ensures { λ r. ⌜ got 0 (placeAt (now (plate .entry)) (r .next)) ≡ endWith 0 (reader.text (phrasesIn (now (book .entry)) (now (own .entry)) count) (placeAt (now (plate .entry)) bit)) ⌝ }
 {
-    let mut end = at;
-    let mut place = bit;
-    let mut left = options;
-    while 0 < left {
-        // Never refused: the whole plate has been read.
-        let read = plate_texts::accepted_text(plate, place, index, book, own, count);
-        let TextRead::Is(text, next) = read else {
-            return end;
-        };
-        let mut characters = [0u8; 64];
-        spell(plate, text, &mut characters);
-        end = transcript_lines::put_option(out, end, text_of(index, book, own, &characters, text));
-        place = next;
-        left -= 1;
-    }
-    end
-}
-
-// The C line of a question with its options.
-fn offer<'a>(
-    plate: &[u8],
-    index: &'a [u32],
-    book: &'a [u8],
-    own: &'a [u8],
-    count: usize,
-    text: &[u8],
-    options: usize,
-    bit: usize,
-    out: &mut [u8],
-    at: usize,
-) -> usize
-    requires { ⌜ Lent (now plate) (now index) (now book) (now own) count × Offers (now plate) (now book) (now own) count options bit ⌝ }
-    ensures { λ r. ⌜ (r, now (out .exit)) ≡ poured at (lineBytes (offered (now (text .entry)) (textsAt (now (plate .entry)) (now (book .entry)) (now (own .entry)) count options bit))) (now (out .entry)) ⌝ }
-{
-    let end = transcript_lines::put_offer(out, at, text);
-    let end = put_options(plate, index, book, own, count, options, bit, out, end);
-    transcript_lines::put_end(out, end)
-}
-
-// The text of a statement. Nothing asks it of a goto or an if.
-fn statement_text(i: InstructionAt) -> TextAt
-    ensures { λ r. ⌜ r ≡ statementText i ⌝ }
-{
-    match i {
-        InstructionAt::Input { register: _, text } => text,
-        InstructionAt::Inputs {
-            register: _,
-            text,
-            options: _,
-            bit: _,
-        } => text,
-        InstructionAt::Print { text } => text,
-        InstructionAt::Printex { text } => text,
-        _ => TextAt::Phrase {
-            own: false,
-            place: 0,
-        },
+    let text_at = text_out::put(out, at, front);
+    let copied = copy_text(plate, bit, index, book, own, count, out, text_at);
+    let end = text_out::put_byte(out, copied.end, b'\n');
+    Copied {
+        end,
+        next: copied.next,
     }
 }
 
-// The statement of an instruction.
-pub fn perform<'a>(
+// input: a question, and then its answer.
+pub fn ask<'a>(
     plate: &[u8],
+    bit: usize,
     index: &'a [u32],
     book: &'a [u8],
     own: &'a [u8],
     count: usize,
-    i: InstructionAt,
+    register: usize,
     answers: &[i32],
     registers: &mut [i32; 32],
     out: &mut [u8],
     at: usize,
     m: Machine,
-) -> Performed
-    requires { ⌜ Lent (now plate) (now index) (now book) (now own) count × Says (now plate) (now book) (now own) count i × (m .steps < 18446744073709551615) ⌝ }
-    ensures { λ r. ⌜ performed (now (registers .exit)) (now (answers .entry)) r (now (out .exit)) ≡ laid at (statement.perform (statementOf (instructionAt (now (plate .entry)) (now (book .entry)) (now (own .entry)) count i)) (machineState (now (registers .entry)) (now (answers .entry)) m)) (now (out .entry)) ⌝ }
-    ensures { λ r. ⌜ r .machine .steps ≡ m .steps + 1 ⌝ }
+) -> Met
+    requires { ⌜ Lent (now plate) (now index) (now book) (now own) count × (register < 32) × Known (headed (now plate) (phrasesIn (now book) (now own) count) (Input register bit)) × (m .steps < 18446744073709551615) ⌝ }
+    ensures { λ r. ⌜ performed (now (registers .exit)) (now (answers .entry)) (r .left) (now (out .exit)) ≡ laid at (leftBy 0 (instructionOf (headed (now (plate .entry)) (phrasesIn (now (book .entry)) (now (own .entry)) count) (Input register bit))) (machineState (now (registers .entry)) (now (answers .entry)) m)) (now (out .entry)) ⌝ }
+    ensures { λ r. ⌜ ((s : State) → r .over ≡ overBy 0 (instructionOf (headed (now (plate .entry)) (phrasesIn (now (book .entry)) (now (own .entry)) count) (Input register bit))) s) × (r .left .machine .steps ≡ m .steps + 1) ⌝ }
+    ensures { λ r. ⌜ got 0 (placeAt (now (plate .entry)) (r .next)) ≡ endWith 0 (headed (now (plate .entry)) (phrasesIn (now (book .entry)) (now (own .entry)) count) (Input register bit)) ⌝ }
 {
-    let place = statement_text(i);
-    let mut characters = [0u8; 64];
-    spell(plate, place, &mut characters);
-    let text = text_of(index, book, own, &characters, place);
-    match i {
-        InstructionAt::Input { register, text: _ } => {
-            statements::ask(out, at, registers, register, text, answers, m)
-        }
-        InstructionAt::Inputs {
-            register,
-            text: _,
-            options,
-            bit,
-        } => {
-            let end = offer(plate, index, book, own, count, text, options, bit, out, at);
-            statements::choose(out, end, registers, register, options, answers, m)
-        }
-        InstructionAt::Print { text: _ } => statements::show(out, at, text, m),
-        _ => statements::rule(out, at, text, m),
+    let line = put_line(plate, bit, index, book, own, count, b"Q,", out, at);
+    let left = statements::answer(out, line.end, registers, register, answers, m);
+    Met {
+        left,
+        over: 0,
+        next: line.next,
+    }
+}
+
+// inputs: a question with its options, and then its answer.
+pub fn offer<'a>(
+    plate: &[u8],
+    bit: usize,
+    index: &'a [u32],
+    book: &'a [u8],
+    own: &'a [u8],
+    count: usize,
+    register: usize,
+    answers: &[i32],
+    registers: &mut [i32; 32],
+    out: &mut [u8],
+    at: usize,
+    m: Machine,
+) -> Met
+    requires { ⌜ Lent (now plate) (now index) (now book) (now own) count × (register < 32) × Known (headed (now plate) (phrasesIn (now book) (now own) count) (Inputs register bit)) × (m .steps < 18446744073709551615) ⌝ }
+    ensures { λ r. ⌜ performed (now (registers .exit)) (now (answers .entry)) (r .left) (now (out .exit)) ≡ laid at (leftBy 0 (instructionOf (headed (now (plate .entry)) (phrasesIn (now (book .entry)) (now (own .entry)) count) (Inputs register bit))) (machineState (now (registers .entry)) (now (answers .entry)) m)) (now (out .entry)) ⌝ }
+    ensures { λ r. ⌜ ((s : State) → r .over ≡ overBy 0 (instructionOf (headed (now (plate .entry)) (phrasesIn (now (book .entry)) (now (own .entry)) count) (Inputs register bit))) s) × (r .left .machine .steps ≡ m .steps + 1) ⌝ }
+    ensures { λ r. ⌜ got 0 (placeAt (now (plate .entry)) (r .next)) ≡ endWith 0 (headed (now (plate .entry)) (phrasesIn (now (book .entry)) (now (own .entry)) count) (Inputs register bit)) ⌝ }
+{
+    let text_at = text_out::put(out, at, b"C,");
+    let text = copy_text(plate, bit, index, book, own, count, out, text_at);
+    let offered = copy_options(plate, text.next, index, book, own, count, out, text.end);
+    let end = text_out::put_byte(out, offered.end, b'\n');
+    let left = statements::choose(out, end, registers, register, offered.options, answers, m);
+    Met {
+        left,
+        over: 0,
+        next: offered.next,
+    }
+}
+
+// print: a text shown.
+pub fn show<'a>(
+    plate: &[u8],
+    bit: usize,
+    index: &'a [u32],
+    book: &'a [u8],
+    own: &'a [u8],
+    count: usize,
+    out: &mut [u8],
+    at: usize,
+    m: Machine,
+) -> Met
+    requires { ⌜ Lent (now plate) (now index) (now book) (now own) count × Known (headed (now plate) (phrasesIn (now book) (now own) count) (Print bit)) × (m .steps < 18446744073709551615) ⌝ }
+    ensures { λ r. ⌜ ((registers answers : List ℤ) → performed registers answers (r .left) (now (out .exit)) ≡ laid at (leftBy 0 (instructionOf (headed (now (plate .entry)) (phrasesIn (now (book .entry)) (now (own .entry)) count) (Print bit))) (machineState registers answers m)) (now (out .entry))) ⌝ }
+    ensures { λ r. ⌜ ((s : State) → r .over ≡ overBy 0 (instructionOf (headed (now (plate .entry)) (phrasesIn (now (book .entry)) (now (own .entry)) count) (Print bit))) s) × (r .left .machine .steps ≡ m .steps + 1) ⌝ }
+    ensures { λ r. ⌜ got 0 (placeAt (now (plate .entry)) (r .next)) ≡ endWith 0 (headed (now (plate .entry)) (phrasesIn (now (book .entry)) (now (own .entry)) count) (Print bit)) ⌝ }
+{
+    let line = put_line(plate, bit, index, book, own, count, b"S,", out, at);
+    let left = statements::leave(m, Outcome::End, line.end);
+    Met {
+        left,
+        over: 0,
+        next: line.next,
+    }
+}
+
+// printex: a verdict, which ends.
+pub fn rule<'a>(
+    plate: &[u8],
+    bit: usize,
+    index: &'a [u32],
+    book: &'a [u8],
+    own: &'a [u8],
+    count: usize,
+    out: &mut [u8],
+    at: usize,
+    m: Machine,
+) -> Met
+    requires { ⌜ Lent (now plate) (now index) (now book) (now own) count × Known (headed (now plate) (phrasesIn (now book) (now own) count) (Printex bit)) × (m .steps < 18446744073709551615) ⌝ }
+    ensures { λ r. ⌜ ((registers answers : List ℤ) → performed registers answers (r .left) (now (out .exit)) ≡ laid at (leftBy 0 (instructionOf (headed (now (plate .entry)) (phrasesIn (now (book .entry)) (now (own .entry)) count) (Printex bit))) (machineState registers answers m)) (now (out .entry))) ⌝ }
+    ensures { λ r. ⌜ ((s : State) → r .over ≡ overBy 0 (instructionOf (headed (now (plate .entry)) (phrasesIn (now (book .entry)) (now (own .entry)) count) (Printex bit))) s) × (r .left .machine .steps ≡ m .steps + 1) ⌝ }
+    ensures { λ r. ⌜ got 0 (placeAt (now (plate .entry)) (r .next)) ≡ endWith 0 (headed (now (plate .entry)) (phrasesIn (now (book .entry)) (now (own .entry)) count) (Printex bit)) ⌝ }
+{
+    let line = put_line(plate, bit, index, book, own, count, b"V,", out, at);
+    let left = statements::leave(m, Outcome::Verdict, line.end);
+    Met {
+        left,
+        over: 0,
+        next: line.next,
     }
 }

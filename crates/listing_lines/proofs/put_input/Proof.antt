@@ -1,7 +1,12 @@
 -- `put_input` meets its contract: the question and LF are the line.
+use mathlib.Core.Path.{refl, _∙_}
 use native.Mathlib.Omega.{arith}
+use Rattle.text.specs.Quoted.{bytes}
 use Rattle.output.proofs.Pour.{then}
+use Rattle.plate_texts.proofs.CopiedTexts.{poured-alike}
+use Rattle.instructions.proofs.Headed.{input-text, input-is, input-end}
 use Rattle.listing_lines.proofs.LineBytes.{two-fields}
+use Rattle.listing_lines.proofs.HeadLines.{line-is}
 use borrow.Author.Needs.{needs}
 use Rattle.listing_lines.proofs.put_input.Statement.{statement}
 use Rattle.listing_lines.proofs.put_input.Tie as tie
@@ -10,7 +15,7 @@ slice-aggregate-put-question : tie.Need-slice-aggregate-put-question
 slice-aggregate-put-question c = search needs
 
 put-question-requires : tie.Need-put-question-requires
-put-question-requires c κs = search needs
+put-question-requires c κs = (search needs, search needs, input-text _ _ _ refl (c .before .before .before .before .before .before .before .pre .2) refl)
 
 put-byte-requires : tie.Need-put-byte-requires
 put-byte-requires c κs = search needs
@@ -19,7 +24,10 @@ same-length : tie.Need-same-length
 same-length c = search needs
 
 returns : tie.Need-returns
-returns c = rw (← two-fields _ _ _) (then _ _ _ _ _ _ _ (c .before .before .before .before .before .before .put-question .ensures) (c .before .before .put-byte .ensures) (omega arith))
+returns c = (
+  line-is _ (input-is _ _ _ refl (c .before .before .before .before .before .before .before .before .before .before .before .before .before .before .pre .2) refl) (poured-alike 0 _ (then _ _ _ _ _ _ _ (c .before .before .before .before .before .before .put-question .ensures .0) (c .before .before .put-byte .ensures) (omega arith)) (two-fields (bytes "input") _ _)),
+  c .before .before .before .before .before .before .put-question .ensures .1 ∙ input-end _ _ _ refl refl,
+)
 
 pub put-input-spec : {M : Type 1} → statement M
 put-input-spec =

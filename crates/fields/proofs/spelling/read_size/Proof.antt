@@ -1,99 +1,151 @@
--- `read_size` meets its contract. The loops' invariant: the characters passed and those behind them are the whole text.
--- The measure is the bits that are left, and in the first loop the characters passed last, for its last turn may pass none.
-use Prim.Native.Nat.{_+_, _*_, _-_, _<_}
-use mathlib.Core.Path.{ap, _∙_}
+-- `read_size` meets its contract. The loops' invariant: the characters passed and those behind them are the whole text. The inner loop also
+-- knows the bits that are left of the eight characters. The measures are the bits that are left, and the characters left of the eight.
+use Prim.Native.Nat.{_+_, _*_, _-_}
+use mathlib.Core.Path.{_≡_, sym, ap, _∙_}
 use native.Mathlib.Omega.{arith}
 use lib.ListN.{length}
 use borrow.Author.Needs.{needs}
-use Rattle.fields.specs.Places.{sizeRead}
-use Rattle.fields.proofs.Answers.{field-got, field-refused}
-use Rattle.fields.proofs.Characters.{SizeSoFar, size-start, size-more, size-stopped, size-ended, character-read}
-use Rattle.fields.proofs.Eights.{size-run}
+use borrow.Author.Tests.{not-false, not-true}
+use Rattle.fields.specs.Places.{sizeRead, refusalOf}
+use Rattle.fields.proofs.Answers.{answered, size-got}
+use Rattle.fields.proofs.Characters.{
+  SizeSoFar,
+  size-start,
+  size-more,
+  size-few,
+  size-joined,
+  so-far-stopped,
+  so-far-behind,
+  so-far-ended,
+  character-end,
+  character-text,
+  character-wrong,
+}
+use Rattle.fields.proofs.Cuts.{Left, left-start, left-number, left-more}
 use Rattle.fields.proofs.spelling.read_size.Statement.{statement}
 use Rattle.fields.proofs.spelling.read_size.Tie as tie
 
-abbrev Inv-loop : tie.InvT-loop
-Inv-loop plate at size₀ bit₀ n₀ size bit n = SizeSoFar plate at size bit × (bit < 18446744073709551616)
-
-abbrev μ-loop : tie.MeasureT-loop
-μ-loop plate at size₀ bit₀ n₀ size bit n = length plate * 8 - bit + n
-
 abbrev Inv-loop2 : tie.InvT-loop2
-Inv-loop2 plate at size₀ bit₀ n size bit = SizeSoFar plate at size bit
+Inv-loop2 plate at size₀ bit₀ eight left₀ n₀ size bit left n = SizeSoFar plate at size bit × Left plate bit left n × (bit ≡ bit₀ + n * 7)
 
 abbrev μ-loop2 : tie.MeasureT-loop2
-μ-loop2 plate at size₀ bit₀ n size bit = length plate * 8 - bit
+μ-loop2 plate at size₀ bit₀ eight left₀ n₀ size bit left n = 8 - n
 
-loop-holds : tie.Need-loop-holds Inv-loop μ-loop Inv-loop2 μ-loop2
-loop-holds c = (size-start _ _, omega arith)
+abbrev Inv-loop : tie.InvT-loop
+Inv-loop plate at size₀ bit₀ size bit = SizeSoFar plate at size bit
 
-plain-run-requires : tie.Need-plain-run-requires Inv-loop μ-loop Inv-loop2 μ-loop2
-plain-run-requires c κs = search needs
+abbrev μ-loop : tie.MeasureT-loop
+μ-loop plate at size₀ bit₀ size bit = length plate * 8 - bit
 
-add-size : tie.Need-add-size Inv-loop μ-loop Inv-loop2 μ-loop2
-add-size c = omega (arith, c .before .before .loop .inv .0 .place, c .plain-run .ensures .0 .room)
+loop-holds : tie.Need-loop-holds Inv-loop2 μ-loop2 Inv-loop μ-loop
+loop-holds c = size-start _ _
 
-mul-bit : tie.Need-mul-bit Inv-loop μ-loop Inv-loop2 μ-loop2
-mul-bit c = search needs
+read-eight-requires : tie.Need-read-eight-requires Inv-loop2 μ-loop2 Inv-loop μ-loop
+read-eight-requires c κs = search needs
 
-add-bit : tie.Need-add-bit Inv-loop μ-loop Inv-loop2 μ-loop2
-add-bit c = omega (arith, c .plain-run .ensures .0 .room)
+enum-known-eight : tie.Need-enum-known-eight Inv-loop2 μ-loop2 Inv-loop μ-loop
+enum-known-eight c = search needs
 
-loop-less : tie.Need-loop-less Inv-loop μ-loop Inv-loop2 μ-loop2
-loop-less c = omega (arith, c .plain-run .ensures .0 .room)
-
-loop-again : tie.Need-loop-again Inv-loop μ-loop Inv-loop2 μ-loop2
-loop-again c = (size-run (c .before .before .loop .inv .0) _ (c .plain-run .ensures .0), omega (arith, c .plain-run .ensures .0 .room))
-
-loop2-holds : tie.Need-loop2-holds Inv-loop μ-loop Inv-loop2 μ-loop2
-loop2-holds c = c .before .loop .inv .0
-
-read-character-requires : tie.Need-read-character-requires Inv-loop μ-loop Inv-loop2 μ-loop2
-read-character-requires c κs = search needs
-
-enum-known-field : tie.Need-enum-known-field Inv-loop μ-loop Inv-loop2 μ-loop2
-enum-known-field c = search needs
-
-enum-told : tie.Need-enum-told Inv-loop μ-loop Inv-loop2 μ-loop2
+enum-told : tie.Need-enum-told Inv-loop2 μ-loop2 Inv-loop μ-loop
 enum-told c = search needs
 
-returns : tie.Need-returns Inv-loop μ-loop Inv-loop2 μ-loop2
-returns c = ap (sizeRead _ _) (c .enum-told .given .1) ∙ size-stopped (c .before .before .before .loop2 .inv)
-    (field-refused _ _ (c .before .before .read-character .ensures) (c .enum-told .given .1))
+last-size-requires : tie.Need-last-size-requires Inv-loop2 μ-loop2 Inv-loop μ-loop
+last-size-requires c κs = search needs
 
-returns-2 : tie.Need-returns-2 Inv-loop μ-loop Inv-loop2 μ-loop2
-returns-2 c = size-ended (c .before .before .before .before .before .loop2 .inv) _ _ (field-got _ _ (c .before .before .before .before .read-character .ensures) (c .before .before .field .given .1)) (c .if1 .taken)
+enum-known-last : tie.Need-enum-known-last Inv-loop2 μ-loop2 Inv-loop μ-loop
+enum-known-last c = search needs
 
-add-size-2 : tie.Need-add-size-2 Inv-loop μ-loop Inv-loop2 μ-loop2
-add-size-2 c = let r = character-read _ _ (field-got _ _ (c .before .before .before .before .read-character .ensures) (c .before .before .field .given .1)) in omega (arith, c .before .before .before .before .before .loop2 .inv .place, r .room)
+enum-told-2 : tie.Need-enum-told-2 Inv-loop2 μ-loop2 Inv-loop μ-loop
+enum-told-2 c = search needs
 
-loop2-less : tie.Need-loop2-less Inv-loop μ-loop Inv-loop2 μ-loop2
-loop2-less c = let r = character-read _ _ (field-got _ _ (c .before .before .before .before .read-character .ensures) (c .before .before .field .given .1)) in omega (arith, r .behind, r .room)
+returns : tie.Need-returns Inv-loop2 μ-loop2 Inv-loop μ-loop
+returns c = let a = c .before .before .before .before .before .before .before .before .args in
+    ap (sizeRead (a .plate .now) (a .at)) (c .enum-told2 .given .1) ∙ so-far-behind (c .before .before .before .before .before .before .loop .inv .text)
+    (answered (sizeRead (a .plate .now) (c .before .before .before .before .before .before .loop .bit)) refusalOf (c .before .before .last-size .ensures) (c .enum-told2 .given .1))
 
-loop2-again : tie.Need-loop2-again Inv-loop μ-loop Inv-loop2 μ-loop2
-loop2-again c = size-more (c .before .before .before .before .before .loop2 .inv) _ _ (field-got _ _ (c .before .before .before .before .read-character .ensures) (c .before .before .field .given .1)) (c .if1 .left)
+add-t13 : tie.Need-add-t13 Inv-loop2 μ-loop2 Inv-loop μ-loop
+add-t13 c = let e = size-got _ _ _ (c .before .before .before .last-size .ensures) (c .before .last .given .1) in
+    omega (arith, size-few (c .before .before .before .before .before .before .before .loop .inv) _ _ e)
+
+returns-2 : tie.Need-returns-2 Inv-loop2 μ-loop2 Inv-loop μ-loop
+returns-2 c = let e = size-got _ _ _ (c .before .before .before .last-size .ensures) (c .before .last .given .1) in
+    size-joined (c .before .before .before .before .before .before .before .loop .inv) _ _ e
+
+loop2-holds : tie.Need-loop2-holds Inv-loop2 μ-loop2 Inv-loop μ-loop
+loop2-holds c = (c .before .before .before .before .loop .inv, left-start _ _ _ (sym (c .before .before .before .read-eight .ensures) ∙ c .before .eight .given .1), omega arith)
+
+loop-less : tie.Need-loop-less Inv-loop2 μ-loop2 Inv-loop μ-loop
+loop-less c = let i = c .before .loop2 .inv in omega (arith, i .1 .room, i .1 .most, i .2)
+
+loop-again : tie.Need-loop-again Inv-loop2 μ-loop2 Inv-loop μ-loop
+loop-again c = c .before .loop2 .inv .0
+
+add-t15 : tie.Need-add-t15 Inv-loop2 μ-loop2 Inv-loop μ-loop
+add-t15 c = search needs
+
+returns-3 : tie.Need-returns-3 Inv-loop2 μ-loop2 Inv-loop μ-loop
+returns-3 c = let i = c .before .before .loop2 .inv in
+    so-far-ended (i .0 .text) _ _ (character-end _ _ _ (left-number (i .1) (c .before .loop2-test .taken)) (c .if1 .taken)) (c .if1 .taken)
+
+is-plain-requires : tie.Need-is-plain-requires Inv-loop2 μ-loop2 Inv-loop μ-loop
+is-plain-requires c κs = search needs
+
+returns-4 : tie.Need-returns-4 Inv-loop2 μ-loop2 Inv-loop μ-loop
+returns-4 c = let i = c .before .before .before .before .loop2 .inv in
+    let e = left-number (i .1) (c .before .before .before .loop2-test .taken) in
+    let wrong = sym (c .before .is-plain .ensures) ∙ not-true _ (c .if2 .taken) in
+    so-far-stopped (i .0 .text) (character-wrong _ _ _ e (c .before .before .if1 .left) wrong)
+
+add-size : tie.Need-add-size Inv-loop2 μ-loop2 Inv-loop μ-loop
+add-size c = let i = c .before .before .before .before .loop2 .inv in omega (arith, i .0 .place, i .1 .room)
+
+add-bit : tie.Need-add-bit Inv-loop2 μ-loop2 Inv-loop μ-loop
+add-bit c = search needs
+
+mul-left : tie.Need-mul-left Inv-loop2 μ-loop2 Inv-loop μ-loop
+mul-left c = search needs
+
+add-n : tie.Need-add-n Inv-loop2 μ-loop2 Inv-loop μ-loop
+add-n c = search needs
+
+loop2-less : tie.Need-loop2-less Inv-loop2 μ-loop2 Inv-loop μ-loop
+loop2-less c = search needs
+
+loop2-again : tie.Need-loop2-again Inv-loop2 μ-loop2 Inv-loop μ-loop
+loop2-again c = let i = c .before .before .before .before .loop2 .inv in
+    let few = c .before .before .before .loop2-test .taken in
+    let plain = sym (c .before .is-plain .ensures) ∙ not-false _ (c .if2 .left) in
+    let e = character-text _ _ _ (left-number (i .1) few) (c .before .before .if1 .left) plain in
+    (size-more (i .0) _ _ e (c .before .before .if1 .left), left-more (i .1) few, omega arith)
 
 pub read-size-spec : {M : Type 1} → statement M
 read-size-spec =
     tie.close
     (tie.spec
-    Inv-loop
-    μ-loop
     Inv-loop2
     μ-loop2
+    Inv-loop
+    μ-loop
     loop-holds
-    plain-run-requires
-    add-size
-    mul-bit
-    add-bit
+    read-eight-requires
+    enum-known-eight
+    enum-told
+    last-size-requires
+    enum-known-last
+    enum-told-2
+    returns
+    add-t13
+    returns-2
+    loop2-holds
     loop-less
     loop-again
-    loop2-holds
-    read-character-requires
-    enum-known-field
-    enum-told
-    returns
-    returns-2
-    add-size-2
+    add-t15
+    returns-3
+    is-plain-requires
+    returns-4
+    add-size
+    add-bit
+    mul-left
+    add-n
     loop2-less
     loop2-again)

@@ -1,5 +1,4 @@
 -- `text_end` meets its contract: the text is no refusal, and ends behind its characters or its place.
-use Prim.Native.Nat.{_+_}
 use mathlib.Core.Path.{_≡_, ap, _∙_}
 use native.Mathlib.Omega.{arith}
 use borrow.Author.Needs.{needs}
@@ -11,31 +10,20 @@ use Rattle.plate.specs.Plate as reader
 use Rattle.fields.proofs.Onward.{then-got, then-stopped}
 use Rattle.fields.proofs.Answers.{answered, field-got, field-refused, size-got}
 use Rattle.plate_texts.proofs.PhraseRead.{book-count}
-use Rattle.plate_texts.proofs.TextsRead.{text-code, some-phrase, by-spelled, by-phrase}
+use Rattle.plate_texts.proofs.TextsRead.{known-code, known-phrase, by-spelled, by-phrase}
 use Rattle.plate_texts.proofs.Known.{known-same, known-then}
 use Rattle.plate_texts.proofs.accepted.text_end.Statement.{statement}
 use Rattle.plate_texts.proofs.accepted.text_end.Tie as tie
 
 -- the code, as the reader judges it
-code-read : (c : tie.After-read-code) →
-    let a = c .before .before .before .before .before .before .args in
-    fieldRead (a .plate .now) (c .read-code .result)
+code-read : (c : tie.After-read-plain) →
+    let a = c .before .before .before .before .before .args in
+    fieldRead (a .plate .now) (c .read-plain .result)
     ≡ judged (number 2) (reader.isTextCode (phrasesIn (a .book .now) (a .own .now) (a .count))) Unused (placeAt (a .plate .now) (a .at))
-code-read c =
-    let b = c .before .before .before .before .before .before in
-    c .read-code .ensures
-    ∙ text-code (phrasesIn (b .args .book .now) (b .args .own .now) (b .args .count)) (c .before .count-of .result + b .args .count) _ _
-    (omega (arith, c .before .count-of .ensures, book-count (b .pre .0), (b .pre .0) .whole))
+code-read c = c .read-plain .ensures ∙ known-code _ _ _ (c .before .before .before .before .before .pre .1)
 
-count-of-requires : tie.Need-count-of-requires
-count-of-requires c κs = search needs
-
-add-read-code : tie.Need-add-read-code
-add-read-code c = let b = c .before .before .before .before .before in
-    omega (arith, c .count-of .ensures, book-count (b .pre .0), b .pre .0 .indexed .few, b .pre .0 .few)
-
-read-code-requires : tie.Need-read-code-requires
-read-code-requires c κs = search needs
+read-plain-requires : tie.Need-read-plain-requires
+read-plain-requires c κs = search needs
 
 enum-known-field : tie.Need-enum-known-field
 enum-known-field c = search needs
@@ -45,20 +33,26 @@ enum-told c = search needs
 
 returns : tie.Need-returns
 unfolding reader.text
-returns c = absurd (c .before .before .before .before .before .before .before .before .pre .1 .good (then-stopped _ _ _ (field-refused _ _ (code-read (c .before .before)) (c .enum-told .given .1))))
+returns c = absurd (c .before .before .before .before .before .before .before .pre .1 .good (then-stopped _ _ _ (field-refused _ _ (code-read (c .before .before)) (c .enum-told .given .1))))
 
-phrase-end-requires : tie.Need-phrase-end-requires
+accepted-phrase-requires : tie.Need-accepted-phrase-requires
 unfolding reader.text
-phrase-end-requires c κs = let some = some-phrase _ _ _ _ (field-got _ _ (c .before .before .before .before .read-code .ensures) (c .before .before .field .given .1)) (c .if1 .taken) in
-    (search needs, omega (arith, some, c .before .before .before .before .before .count-of .ensures), known-same (by-phrase _ _ _ (c .if1 .taken)) (known-then _ _ _ (c .before .before .before .before .before .before .before .before .before .before .pre .1) (field-got _ _ (code-read (c .before .before .before .before)) (c .before .before .field .given .1))))
+accepted-phrase-requires c κs =
+    let pre = c .before .before .before .before .before .before .before .before .before .pre in
+    let code = field-got _ _ (code-read (c .before .before .before .before)) (c .before .before .field .given .1) in
+    let some = known-phrase _ _ _ _ _ code (c .if1 .taken) in
+    (search needs, omega (arith, some, book-count (pre .0), pre .0 .whole), known-same (by-phrase _ _ _ (c .if1 .taken)) (known-then _ _ _ (pre .1) code))
 
 returns-2 : tie.Need-returns-2
 unfolding reader.text
-returns-2 c = c .phrase-end .ensures ∙ ap (endWith 0) (by-phrase _ _ _ (c .before .if1 .taken) ∙ then-got _ _ _ (field-got _ _ (code-read (c .before .before .before .before .before)) (c .before .before .before .field .given .1)))
+returns-2 c = ap (endWith 0) (c .accepted-phrase .ensures ∙ by-phrase _ _ _ (c .before .if1 .taken) ∙ then-got _ _ _ (field-got _ _ (code-read (c .before .before .before .before .before)) (c .before .before .before .field .given .1)))
 
 accepted-spelled-requires : tie.Need-accepted-spelled-requires
 unfolding reader.text
-accepted-spelled-requires c κs = (c .before .before .before .before .before .before .before .before .before .before .pre .0 .short, c .before .before .before .before .before .before .before .before .before .before .pre .0 .indexed, known-same (by-spelled _ _ _ (c .if1 .left)) (known-then _ _ _ (c .before .before .before .before .before .before .before .before .before .before .pre .1) (field-got _ _ (code-read (c .before .before .before .before)) (c .before .before .field .given .1))))
+accepted-spelled-requires c κs =
+    let pre = c .before .before .before .before .before .before .before .before .before .pre in
+    let code = field-got _ _ (code-read (c .before .before .before .before)) (c .before .before .field .given .1) in
+    (pre .0 .short, pre .0 .indexed, known-same (by-spelled _ _ _ (c .if1 .left)) (known-then _ _ _ (pre .1) code))
 
 enum-known-spelled : tie.Need-enum-known-spelled
 enum-known-spelled c = search needs
@@ -68,7 +62,9 @@ enum-told-2 c = search needs
 
 returns-3 : tie.Need-returns-3
 unfolding reader.text
-returns-3 c = absurd (c .before .before .before .before .before .before .before .before .before .before .before .before .before .pre .1 .good (answered (sizeRead (c .before .before .before .before .before .before .before .before .before .before .before .before .before .args .plate .now) _) refusalOf (c .before .before .accepted-spelled .ensures) (c .enum-told2 .given .1)
+returns-3 c =
+    let b = c .before .before .before .before .before .before .before .before .before .before .before .before in
+    absurd (b .pre .1 .good (answered (sizeRead (b .args .plate .now) _) refusalOf (c .before .before .accepted-spelled .ensures) (c .enum-told2 .given .1)
     ∙ by-spelled _ _ _ (c .before .before .before .if1 .left) ∙ then-got _ _ _ (field-got _ _ (code-read (c .before .before .before .before .before .before .before)) (c .before .before .before .before .before .field .given .1))))
 
 returns-4 : tie.Need-returns-4
@@ -80,13 +76,11 @@ pub text-end-spec : {M : Type 1} → statement M
 text-end-spec =
     tie.close
     (tie.spec
-    count-of-requires
-    add-read-code
-    read-code-requires
+    read-plain-requires
     enum-known-field
     enum-told
     returns
-    phrase-end-requires
+    accepted-phrase-requires
     returns-2
     accepted-spelled-requires
     enum-known-spelled

@@ -4,8 +4,7 @@ use borrow.Author.Needs.{needs}
 use Rattle.phrases.specs.Lookup.{phrasesIn}
 use Rattle.plate.specs.Reading.{many}
 use Rattle.plate.specs.Plate as reader
-use Rattle.fields.specs.Places.{placeAt}
-use Rattle.plate_texts.specs.TextsAt.{Known}
+use Rattle.fields.specs.Places.{placeAt, Known}
 use Rattle.plate_texts.proofs.Known.{known-one, known-others}
 use Rattle.plate_texts.proofs.Ended.{ended-some}
 use Rattle.plate_texts.proofs.TextsRead.{Passing, passing-start, passing-more, passing-end}

@@ -1,12 +1,11 @@
 -- `accepted_phrase` meets its contract: the source, and the place there, which is known to be good.
 use native.Mathlib.Omega.{arith}
-use mathlib.Core.Path.{refl, _∙_}
+use mathlib.Core.Path.{_∙_}
 use borrow.Author.Needs.{needs}
 use Rattle.fields.specs.Places.{refusalOf}
-use Rattle.fields.proofs.Answers.{answered, refused}
+use Rattle.fields.proofs.Answers.{answered}
 use Rattle.plate_texts.specs.Sources.{sourceRead, sourceRefusal}
-use Rattle.plate_texts.specs.TextsAt.{textsRead}
-use Rattle.plate_texts.proofs.PhraseRead.{phraseOf, width-small, source-of, source-stopped, source-good, phrase-read, place-known}
+use Rattle.plate_texts.proofs.PhraseRead.{phraseRead, width-small, source-of, source-stopped, source-good, phrase-read, place-known}
 use Rattle.plate_texts.proofs.phrase_place.accepted_phrase.Statement.{statement}
 use Rattle.plate_texts.proofs.phrase_place.accepted_phrase.Tie as tie
 
@@ -22,12 +21,10 @@ enum-known-source c = search needs
 enum-told : tie.Need-enum-told
 enum-told c = search needs
 
-refusal-requires : tie.Need-refusal-requires
-refusal-requires c κs = search needs
-
 returns : tie.Need-returns
-returns c = source-stopped (c .before .before .before .before .before .before .before .before .before .pre .0) (c .before .before .before .before .before .before .before .before .before .args .at)
-    (refused (sourceRead (c .before .before .before .before .before .before .before .before .before .args .plate .now)) sourceRefusal (source-of (c .before .before .before .before .before .before .before .before .before .pre .0) (c .before .before .before .before .before .before .before .before .before .args .at) _ (c .before .before .before .read-source .result) (c .before .before .before .before .count-of .ensures) (c .before .before .before .read-source .ensures)) (c .before .enum-told .given .1) (c .refusal .ensures) refl)
+returns c = absurd (c .before .before .before .before .before .before .before .before .pre .2 .good
+    (source-stopped (c .before .before .before .before .before .before .before .before .pre .0) (c .before .before .before .before .before .before .before .before .args .at)
+    (answered (sourceRead (c .before .before .before .before .before .before .before .before .args .plate .now)) sourceRefusal (source-of (c .before .before .before .before .before .before .before .before .pre .0) (c .before .before .before .before .before .before .before .before .args .at) _ (c .before .before .read-source .result) (c .before .before .before .count-of .ensures) (c .before .before .read-source .ensures)) (c .enum-told .given .1))))
 
 width-of-requires : tie.Need-width-of-requires
 width-of-requires c κs = let e = answered (sourceRead (c .before .before .before .before .before .before .before .before .before .args .plate .now)) sourceRefusal (source-of (c .before .before .before .before .before .before .before .before .before .pre .0) (c .before .before .before .before .before .before .before .before .before .args .at) _ (c .before .before .before .read-source .result) (c .before .before .before .before .count-of .ensures) (c .before .before .before .read-source .ensures)) (c .before .source .given .1) in
@@ -45,20 +42,18 @@ enum-known-field c = search needs
 enum-told-2 : tie.Need-enum-told-2
 enum-told-2 c = search needs
 
-refusal-requires-2 : tie.Need-refusal-requires-2
-refusal-requires-2 c κs = search needs
-
 returns-2 : tie.Need-returns-2
-returns-2 c = let e = answered (sourceRead (c .before .before .before .before .before .before .before .before .before .before .before .before .before .before .args .plate .now)) sourceRefusal (source-of (c .before .before .before .before .before .before .before .before .before .before .before .before .before .before .pre .0) (c .before .before .before .before .before .before .before .before .before .before .before .before .before .before .args .at) _ (c .before .before .before .before .before .before .before .before .read-source .result) (c .before .before .before .before .before .before .before .before .before .count-of .ensures) (c .before .before .before .before .before .before .before .before .read-source .ensures)) (c .before .before .before .before .before .before .source .given .1) in
-    let good = source-good (c .before .before .before .before .before .before .before .before .before .before .before .before .before .before .pre .0) (c .before .before .before .before .before .before .before .before .before .before .before .before .before .before .args .at) _ _ _ e (c .before .before .before .before .before .before .before .before .before .before .before .before .before .before .pre .1) in
-    refused (λ f. textsRead (c .before .before .before .before .before .before .before .before .before .before .before .before .before .before .args .plate .now) (c .before .before .before .before .before .before .before .before .before .before .before .before .before .before .args .book .now) (c .before .before .before .before .before .before .before .before .before .before .before .before .before .before .args .own .now) (phraseOf f (c .before .before .before .before .before .before .source .given .0 .0))) refusalOf
-    (phrase-read (c .before .before .before .before .before .before .before .before .before .before .before .before .before .before .pre .0) (c .before .before .before .before .before .before .before .before .before .before .before .before .before .before .args .at) _ _ _ e good (c .before .before .before .read-plain .result) ((rw (c .before .before .before .before .width-of .ensures) at (c .before .before .before .read-plain .ensures)) ∙ place-known (c .before .before .before .before .before .before .before .before .before .before .before .before .before .before .pre .0) (c .before .before .before .before .before .before .before .before .before .before .before .before .before .before .args .at) _ _ _ e good (c .before .before .before .before .before .before .before .before .before .before .before .before .before .before .pre .2)))
-    (c .before .enum-told2 .given .1) (c .refusal2 .ensures) refl
+returns-2 c = let e = answered (sourceRead (c .before .before .before .before .before .before .before .before .before .before .before .before .before .args .plate .now)) sourceRefusal (source-of (c .before .before .before .before .before .before .before .before .before .before .before .before .before .pre .0) (c .before .before .before .before .before .before .before .before .before .before .before .before .before .args .at) _ (c .before .before .before .before .before .before .before .read-source .result) (c .before .before .before .before .before .before .before .before .count-of .ensures) (c .before .before .before .before .before .before .before .read-source .ensures)) (c .before .before .before .before .before .source .given .1) in
+    let good = source-good (c .before .before .before .before .before .before .before .before .before .before .before .before .before .pre .0) (c .before .before .before .before .before .before .before .before .before .before .before .before .before .args .at) _ _ _ e (c .before .before .before .before .before .before .before .before .before .before .before .before .before .pre .1) in
+    absurd (c .before .before .before .before .before .before .before .before .before .before .before .before .before .pre .2 .good
+    (answered (phraseRead (c .before .before .before .before .before .before .before .before .before .before .before .before .before .args .plate .now) (c .before .before .before .before .before .before .before .before .before .before .before .before .before .args .book .now) (c .before .before .before .before .before .before .before .before .before .before .before .before .before .args .own .now) (c .before .before .before .before .before .source .given .0 .0)) refusalOf
+    (phrase-read (c .before .before .before .before .before .before .before .before .before .before .before .before .before .pre .0) (c .before .before .before .before .before .before .before .before .before .before .before .before .before .args .at) _ _ _ e good (c .before .before .read-plain .result) ((rw (c .before .before .before .width-of .ensures) at (c .before .before .read-plain .ensures)) ∙ place-known (c .before .before .before .before .before .before .before .before .before .before .before .before .before .pre .0) (c .before .before .before .before .before .before .before .before .before .before .before .before .before .args .at) _ _ _ e good (c .before .before .before .before .before .before .before .before .before .before .before .before .before .pre .2)))
+    (c .enum-told2 .given .1)))
 
 returns-3 : tie.Need-returns-3
 returns-3 c = let e = answered (sourceRead (c .before .before .before .before .before .before .before .before .before .before .before .before .before .before .args .plate .now)) sourceRefusal (source-of (c .before .before .before .before .before .before .before .before .before .before .before .before .before .before .pre .0) (c .before .before .before .before .before .before .before .before .before .before .before .before .before .before .args .at) _ (c .before .before .before .before .before .before .before .before .read-source .result) (c .before .before .before .before .before .before .before .before .before .count-of .ensures) (c .before .before .before .before .before .before .before .before .read-source .ensures)) (c .before .before .before .before .before .before .source .given .1) in
     let good = source-good (c .before .before .before .before .before .before .before .before .before .before .before .before .before .before .pre .0) (c .before .before .before .before .before .before .before .before .before .before .before .before .before .before .args .at) _ _ _ e (c .before .before .before .before .before .before .before .before .before .before .before .before .before .before .pre .1) in
-    answered (λ f. textsRead (c .before .before .before .before .before .before .before .before .before .before .before .before .before .before .args .plate .now) (c .before .before .before .before .before .before .before .before .before .before .before .before .before .before .args .book .now) (c .before .before .before .before .before .before .before .before .before .before .before .before .before .before .args .own .now) (phraseOf f (c .before .before .before .before .before .before .source .given .0 .0))) refusalOf
+    answered (phraseRead (c .before .before .before .before .before .before .before .before .before .before .before .before .before .before .args .plate .now) (c .before .before .before .before .before .before .before .before .before .before .before .before .before .before .args .book .now) (c .before .before .before .before .before .before .before .before .before .before .before .before .before .before .args .own .now) (c .before .before .before .before .before .before .source .given .0 .0)) refusalOf
     (phrase-read (c .before .before .before .before .before .before .before .before .before .before .before .before .before .before .pre .0) (c .before .before .before .before .before .before .before .before .before .before .before .before .before .before .args .at) _ _ _ e good (c .before .before .before .read-plain .result) ((rw (c .before .before .before .before .width-of .ensures) at (c .before .before .before .read-plain .ensures)) ∙ place-known (c .before .before .before .before .before .before .before .before .before .before .before .before .before .before .pre .0) (c .before .before .before .before .before .before .before .before .before .before .before .before .before .before .args .at) _ _ _ e good (c .before .before .before .before .before .before .before .before .before .before .before .before .before .before .pre .2)))
     (c .before .field .given .1)
 
@@ -70,12 +65,10 @@ accepted-phrase-spec =
     read-source-requires
     enum-known-source
     enum-told
-    refusal-requires
     returns
     width-of-requires
     read-plain-requires
     enum-known-field
     enum-told-2
-    refusal-requires-2
     returns-2
     returns-3)

@@ -1,59 +1,61 @@
 -- `is_good` meets its contract: the size, then the lookup of the copied characters, where there are phrases.
-use Prim.Native.Nat.{_≤_, _<_}
+use Prim.Native.Nat.{_≤_}
 use mathlib.Core.Path.{sym, ap, _∙_}
 use native.Mathlib.Omega.{arith}
-use lib.ListN.{length, drop}
+use lib.ListN.{length}
 use borrow.Author.Tests.{le-leb, lt-leb}
-use Rattle.bits.specs.Bits.{bytesBits}
-use Rattle.fields.specs.Places.{charactersIn}
-use borrow.Author.Needs.{needs}
-use Rattle.fields.proofs.Copied.{length-characters, copied}
+use Rattle.fields.specs.Places.{placeAt, untilETX, valuesOf}
+use Rattle.fields.proofs.Copies.{copied-text}
 use Rattle.plate_texts.proofs.TextsRead.{none-there}
+use borrow.Author.Needs.{needs}
 use Rattle.plate_texts.proofs.spelled_text.is_good.Statement.{statement}
 use Rattle.plate_texts.proofs.spelled_text.is_good.Tie as tie
 
 returns : tie.Need-returns
-returns c = let h : c .before .before .before .before .before .args .size < 1 = omega arith in simp (length-characters, lt-leb 1 _ h)
+returns c = search needs
 
 returns-2 : tie.Need-returns-2
-returns-2 c = let h : 1 ≤ c .before .before .before .before .before .before .args .size = omega arith in
-    simp (length-characters, le-leb 1 _ h, lt-leb _ 64 (c .if2 .taken))
+returns-2 c = let a = c .before .before .before .before .before .before in
+    let h : 1 ≤ a .args .size = omega arith in
+    simp (sym (a .pre .3), le-leb 1 _ h, lt-leb _ 64 (c .if2 .taken))
 
 count-of-requires : tie.Need-count-of-requires
 count-of-requires c κs = search needs
 
 returns-3 : tie.Need-returns-3
-returns-3 c = let h : 1 ≤ c .before .before .before .before .before .before .before .before .before .args .size = omega arith in
+returns-3 c = let a = c .before .before .before .before .before .before .before .before .before in
+    let h : 1 ≤ a .args .size = omega arith in
     simp (
-      length-characters,
+      sym (a .pre .3),
       le-leb 1 _ h,
       le-leb _ 64 (c .before .before .before .if2 .left),
-      none-there (c .before .before .before .before .before .before .before .before .before .args .index .now) (c .before .before .before .before .before .before .before .before .before .args .book .now) (c .before .before .before .before .before .before .before .before .before .args .own .now) (c .before .before .before .before .before .before .before .before .before .args .count) (charactersIn (c .before .before .before .before .before .before .before .before .before .args .size) (drop (c .before .before .before .before .before .before .before .before .before .args .bit) (bytesBits (c .before .before .before .before .before .before .before .before .before .args .plate .now)))) (c .before .before .before .before .before .before .before .before .before .pre .1)
+      none-there (a .args .index .now) (a .args .book .now) (a .args .own .now) (a .args .count)
+          (valuesOf (untilETX (placeAt (a .args .plate .now) (a .args .bit)))) (a .pre .1)
           (omega (arith, c .before .before .count-of .ensures, c .before .if3 .taken)) (c .if4 .taken),
     )
 
-slice-aggregate-put-characters : tie.Need-slice-aggregate-put-characters
-slice-aggregate-put-characters c = search needs
+slice-aggregate-copy-each : tie.Need-slice-aggregate-copy-each
+slice-aggregate-copy-each c = search needs
 
-put-characters-requires : tie.Need-put-characters-requires
-put-characters-requires c κs = search needs
+copy-each-requires : tie.Need-copy-each-requires
+copy-each-requires c κs = search needs
 
 array-share-prefix-characters : tie.Need-array-share-prefix-characters
 array-share-prefix-characters c = search needs
 
 slice-aggregate-is-new : tie.Need-slice-aggregate-is-new
-slice-aggregate-is-new c = let t = copied (c .before .before .before .before .before .before .before .before .before .before .before .before .args .size) _ _ _ _
-    (omega arith) (c .before .before .put-characters .ensures) in sym (ap length t ∙ length-characters _ _)
+slice-aggregate-is-new c = let a = c .before .before .before .before .before .before .before .before .before .before .before .before in
+    let t = copied-text (a .args .size) _ _ _ _ (a .pre .3) (omega arith) (c .before .before .copy-each .ensures .0) in
+    a .pre .3 ∙ sym (ap length t)
 
 is-new-requires : tie.Need-is-new-requires
 is-new-requires c κs = search needs
 
 returns-4 : tie.Need-returns-4
-returns-4 c = let h : 1 ≤ c .before .before .before .before .before .before .before .before .before .before .before .before .before .args .size = omega arith in
-    let t = copied (c .before .before .before .before .before .before .before .before .before .before .before .before .before .args .size) _ _ _ _ (omega arith)
-    (c .before .before .before .put-characters .ensures) in
-    simp (length-characters, le-leb 1 _ h, le-leb _ 64 (c .before .before .before .before .before .before .before .if2 .left))
-    (rw t at (c .is-new .ensures))
+returns-4 c = let a = c .before .before .before .before .before .before .before .before .before .before .before .before .before in
+    let h : 1 ≤ a .args .size = omega arith in
+    let t = copied-text (a .args .size) _ _ _ _ (a .pre .3) (omega arith) (c .before .before .before .copy-each .ensures .0) in
+    simp (sym (a .pre .3), le-leb 1 _ h, le-leb _ 64 (c .before .before .before .before .before .before .before .if2 .left)) (rw t at (c .is-new .ensures))
 
 pub is-good-spec : {M : Type 1} → statement M
 is-good-spec =
@@ -63,8 +65,8 @@ is-good-spec =
     returns-2
     count-of-requires
     returns-3
-    slice-aggregate-put-characters
-    put-characters-requires
+    slice-aggregate-copy-each
+    copy-each-requires
     array-share-prefix-characters
     slice-aggregate-is-new
     is-new-requires

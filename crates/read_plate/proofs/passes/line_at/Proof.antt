@@ -26,7 +26,7 @@ same-length : tie.Need-same-length
 same-length c = search needs
 
 returns : tie.Need-returns
-returns c = in-tail _ _ _ _ _ _ _ (c .before .before .before .before .before .least .ensures) (c .before .before .before .put-instruction .ensures) (c .sum .ensures)
+returns c = (in-tail _ _ _ _ _ _ _ (c .before .before .before .before .before .least .ensures) (c .before .before .before .put-instruction .ensures .0) (c .sum .ensures), c .before .before .before .put-instruction .ensures .1)
 
 pub line-at-spec : {M : Type 1} → statement M
 line-at-spec =

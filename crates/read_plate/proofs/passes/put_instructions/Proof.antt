@@ -10,8 +10,7 @@ use Rattle.plate.specs.Plate.{instruction}
 use Rattle.reader.specs.Holding.{instructionsAt}
 use Rattle.listing.specs.Listing.{instructionFields, linesText}
 use Rattle.listing_lines.proofs.Pieces.{Left, lines-pieces, left-all, left-more, left-none, left-read}
-use Rattle.instructions.proofs.InstructionAnswers.{instruction-got, instruction-stopped}
-use Rattle.read_plate.proofs.LineNeeds.{instruction-ready}
+use Rattle.instructions.proofs.Headed.{instruction-ended}
 use Rattle.read_plate.proofs.passes.put_instructions.Statement.{statement}
 use Rattle.read_plate.proofs.passes.put_instructions.Tie as tie
 
@@ -25,26 +24,11 @@ abbrev μ-loop : tie.MeasureT-loop
 loop-holds : tie.Need-loop-holds Inv-loop μ-loop
 loop-holds c = (left-all (lines-pieces instructionFields) _ _ _ _ (c .before .before .before .before .before .pre .1) (omega arith), refl)
 
-sub-accepted-instruction : tie.Need-sub-accepted-instruction Inv-loop μ-loop
-sub-accepted-instruction c = search needs
-
-accepted-instruction-requires : tie.Need-accepted-instruction-requires Inv-loop μ-loop
-accepted-instruction-requires c κs = (search needs, record { good = λ e. left-read (lines-pieces instructionFields) _ _ _ (c .before .loop .inv .0) (omega arith) e })
-
-enum-known-read : tie.Need-enum-known-read Inv-loop μ-loop
-enum-known-read c = search needs
-
-enum-told : tie.Need-enum-told Inv-loop μ-loop
-enum-told c = search needs
-
-same-length : tie.Need-same-length Inv-loop μ-loop
-same-length c = search needs
-
-returns : tie.Need-returns Inv-loop μ-loop
-returns c = absurd (left-read (lines-pieces instructionFields) _ _ _ (c .before .before .before .before .loop .inv .0) (omega arith) (instruction-stopped _ _ _ _ _ (c .before .before .accepted-instruction .ensures) (c .enum-told .given .1) refl))
+sub-line-at : tie.Need-sub-line-at Inv-loop μ-loop
+sub-line-at c = search needs
 
 line-at-requires : tie.Need-line-at-requires Inv-loop μ-loop
-line-at-requires c κs = (c .before .before .before .before .before .before .before .before .before .before .before .before .pre .0, instruction-ready _ _ _ _ _ _ _ (c .before .before .before .before .accepted-instruction .ensures) _ (c .before .before .read .given .1))
+line-at-requires c κs = (search needs, record { good = λ e. left-read (lines-pieces instructionFields) _ _ _ (c .before .before .loop .inv .0) (omega arith) e })
 
 sub-left : tie.Need-sub-left Inv-loop μ-loop
 sub-left c = search needs
@@ -53,13 +37,14 @@ loop-less : tie.Need-loop-less Inv-loop μ-loop
 loop-less c = search needs
 
 loop-again : tie.Need-loop-again Inv-loop μ-loop
-loop-again c = (left-more (lines-pieces instructionFields) _ _ _ (c .before .before .before .before .before .before .before .before .before .loop .inv .0) (omega arith) (instruction-got _ _ _ _ _ (c .before .before .before .before .before .before .before .accepted-instruction .ensures) (c .before .before .before .before .before .read .given .1)) (c .before .before .line-at .ensures) (omega arith), search needs)
+loop-again c = let e = c .before .before .line-at .ensures in
+    (left-more (lines-pieces instructionFields) _ _ _ (c .before .before .before .before .before .loop .inv .0) (omega arith) (instruction-ended _ _ (e .1)) (e .0) (omega arith), search needs)
 
-same-length-2 : tie.Need-same-length-2 Inv-loop μ-loop
-same-length-2 c = search needs
+same-length : tie.Need-same-length Inv-loop μ-loop
+same-length c = search needs
 
-returns-2 : tie.Need-returns-2 Inv-loop μ-loop
-returns-2 c = left-none (lines-pieces instructionFields) _ _ (c .before .loop .left) (c .before .loop .inv .0) (omega arith)
+returns : tie.Need-returns Inv-loop μ-loop
+returns c = left-none (lines-pieces instructionFields) _ _ (c .before .loop .left) (c .before .loop .inv .0) (omega arith)
 
 pub put-instructions-spec : {M : Type 1} → statement M
 put-instructions-spec =
@@ -68,15 +53,10 @@ put-instructions-spec =
     Inv-loop
     μ-loop
     loop-holds
-    sub-accepted-instruction
-    accepted-instruction-requires
-    enum-known-read
-    enum-told
-    same-length
-    returns
+    sub-line-at
     line-at-requires
     sub-left
     loop-less
     loop-again
-    same-length-2
-    returns-2)
+    same-length
+    returns)

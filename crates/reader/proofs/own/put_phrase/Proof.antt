@@ -12,8 +12,8 @@ slice-aggregate-put c = search needs
 put-requires : tie.Need-put-requires
 put-requires c κs = search needs
 
-put-characters-requires : tie.Need-put-characters-requires
-put-characters-requires c κs = search needs
+copy-each-requires : tie.Need-copy-each-requires
+copy-each-requires c κs = search needs
 
 put-byte-requires : tie.Need-put-byte-requires
 put-byte-requires c κs = search needs
@@ -24,7 +24,7 @@ same-length c = search needs
 returns : tie.Need-returns
 unfolding phraseLine
 returns c = let e = then _ _ _ _ _ _ _ (c .before .before .before .before .before .before .before .before .before .before .put .ensures)
-    (c .before .before .before .before .before .before .put-characters .ensures) (omega arith) in
+    (c .before .before .before .before .before .before .copy-each .ensures .0) (omega arith) in
     then _ _ _ _ _ _ _ e (c .before .before .put-byte .ensures) (omega arith)
 
 pub put-phrase-spec : {M : Type 1} → statement M
@@ -33,7 +33,7 @@ put-phrase-spec =
     (tie.spec
     slice-aggregate-put
     put-requires
-    put-characters-requires
+    copy-each-requires
     put-byte-requires
     same-length
     returns)

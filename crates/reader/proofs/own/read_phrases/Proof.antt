@@ -1,15 +1,17 @@
 -- `read_phrases` meets its contract. The loop's invariant: the phrases passed are written, and with those behind them they are all.
 -- The measure is what is left of their number.
 use Prim.Native.Nat.{_-_, _≤_}
-use mathlib.Core.Path.{_≡_, ap, _∙_}
+use mathlib.Core.Path.{_≡_, sym, ap, _∙_}
 use native.Mathlib.Omega.{arith}
 use borrow.Author.Needs.{needs}
 use Rattle.output.proofs.Pour.{kept}
-use Rattle.fields.specs.Places.{refusalOf, sizeRead}
+use Rattle.output.specs.Pour.{poured}
+use Rattle.fields.specs.Places.{refusalOf, sizeRead, valuesOf}
 use Rattle.fields.proofs.Answers.{answered, size-got}
-use Rattle.reader.specs.Own.{ownRead}
+use Rattle.fields.proofs.TextCopy.{got-known}
+use Rattle.reader.specs.Own.{ownRead, phraseLine}
 use Rattle.reader.proofs.OwnAnswers.{none-there}
-use Rattle.reader.proofs.OwnSoFar.{OwnSoFar, own-start, own-there, own-ended, own-stopped, own-more, own-left-stopped, own-left-ended}
+use Rattle.reader.proofs.OwnSoFar.{phrase-characters, OwnSoFar, own-start, own-there, own-ended, own-stopped, own-more, own-left-stopped, own-left-ended}
 use Rattle.reader.proofs.own.read_phrases.Statement.{statement}
 use Rattle.reader.proofs.own.read_phrases.Tie as tie
 
@@ -47,7 +49,8 @@ returns c = let s = c .before .before .before .before .before .loop .inv in (
 )
 
 put-phrase-requires : tie.Need-put-phrase-requires Inv-loop μ-loop
-put-phrase-requires c κs = search needs
+put-phrase-requires c κs = let e = size-got _ _ _ (c .before .before .before .before .read-spelled .ensures) (c .before .before .field .given .1) in
+    (search needs, got-known (phrase-characters _ _ _ _ e))
 
 add-k : tie.Need-add-k Inv-loop μ-loop
 add-k c = search needs
@@ -56,13 +59,12 @@ loop-less : tie.Need-loop-less Inv-loop μ-loop
 loop-less c = search needs
 
 loop-again : tie.Need-loop-again Inv-loop μ-loop
-loop-again c = let s = c .before .before .before .before .before .before .before .before .before .before .loop .inv in (
-  own-more (s .0) (omega arith)
-      (c .before .before .before .before .before .before .before .before .before .loop-test .taken) _ _ _ _ (omega arith)
-      (size-got _ _ _ (c .before .before .before .before .before .before .before .read-spelled .ensures)
-      (c .before .before .before .before .before .field .given .1)) (c .before .before .put-phrase .ensures),
-  search needs,
-)
+loop-again c = let l = c .before .before .before .before .before .before .before .before .before .before .loop in
+    let e = size-got _ _ _ (c .before .before .before .before .before .before .before .read-spelled .ensures) (c .before .before .before .before .before .field .given .1) in
+    let text = sym (ap (λ m. poured (l .end) (phraseLine (valuesOf m)) (l .own)) (phrase-characters _ _ _ _ e)) in (
+      own-more (l .inv .0) (omega arith) (c .before .before .before .before .before .before .before .before .before .loop-test .taken) _ _ _ _ (omega arith) e (c .before .before .put-phrase .ensures ∙ text),
+      search needs,
+    )
 
 same-length-2 : tie.Need-same-length-2 Inv-loop μ-loop
 same-length-2 c = kept _ _ _ _ _ (c .before .loop .inv .0 .written)

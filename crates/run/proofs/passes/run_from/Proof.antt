@@ -9,8 +9,7 @@ use Rattle.transcript.specs.Machine.{machineState, laid}
 use Rattle.machine.proofs.Follow.{not-end}
 use Rattle.running.specs.Run.{run}
 use Rattle.run.specs.Accepted.{instructionsFrom, Continues}
-use Rattle.run.proofs.Accepting.{accepted-meets}
-use Rattle.run.proofs.Going.{following, instruction-known, instruction-got, instruction-there, lay-stopped, lay-onward, lay-done}
+use Rattle.run.proofs.Going.{following, instruction-known, lay-stopped, lay-onward, lay-done}
 use Rattle.run.proofs.passes.run_from.Statement.{statement}
 use Rattle.run.proofs.passes.run_from.Tie as tie
 
@@ -23,14 +22,11 @@ abbrev μ-loop : tie.MeasureT-loop
 loop-holds : tie.Need-loop-holds Inv-loop μ-loop
 loop-holds c = (c .before .before .before .before .before .pre .1, refl, c .before .before .before .before .before .pre .2, c .before .before .before .before .before .pre .3, search needs, refl)
 
-sub-accepted-instruction : tie.Need-sub-accepted-instruction Inv-loop μ-loop
-sub-accepted-instruction c = search needs
+sub-meet : tie.Need-sub-meet Inv-loop μ-loop
+sub-meet c = search needs
 
-accepted-instruction-requires : tie.Need-accepted-instruction-requires Inv-loop μ-loop
-accepted-instruction-requires c κs = (c .before .before .before .before .before .before .before .pre .0 .stands .lent, instruction-known _ _ _ _ _ _ (c .before .loop .inv .0) (search needs))
-
-enum-known-read : tie.Need-enum-known-read Inv-loop μ-loop
-enum-known-read c = search needs
+meet-requires : tie.Need-meet-requires Inv-loop μ-loop
+meet-requires c κs = (c .before .before .before .before .before .before .before .before .before .pre .0 .stands .lent, instruction-known _ _ _ _ _ _ (c .before .before .before .loop .inv .0) (search needs), omega (arith, c .before .before .before .loop .inv .3))
 
 enum-told : tie.Need-enum-told Inv-loop μ-loop
 enum-told c = search needs
@@ -39,20 +35,8 @@ same-length : tie.Need-same-length Inv-loop μ-loop
 same-length c = search needs
 
 returns : tie.Need-returns Inv-loop μ-loop
-returns c = absurd (instruction-there _ _ _ _ _ _ (c .before .before .before .before .loop .inv .0) _ (c .before .before .accepted-instruction .ensures) (search needs) (c .enum-told .given .1))
-
-meet-requires : tie.Need-meet-requires Inv-loop μ-loop
-meet-requires c κs = (c .before .before .before .before .before .before .before .before .before .before .before .before .before .pre .0 .stands .lent, accepted-meets _ _ _ _ _ (c .before .before .before .before .before .before .before .before .before .before .before .before .before .pre .0) (λ i. omega (arith, c .before .before .before .before .before .before .before .before .before .before .before .before .shared-slice-known .given i)) _ _ _ _ (instruction-got _ _ _ _ _ _ (c .before .before .before .before .before .before .before .loop .inv .0) _ (c .before .before .before .before .before .accepted-instruction .ensures) (c .before .before .before .read .given .1)), omega (arith, c .before .before .before .before .before .before .before .loop .inv .3))
-
-enum-told-2 : tie.Need-enum-told-2 Inv-loop μ-loop
-enum-told-2 c = search needs
-
-same-length-2 : tie.Need-same-length-2 Inv-loop μ-loop
-same-length-2 c = search needs
-
-returns-2 : tie.Need-returns-2 Inv-loop μ-loop
-returns-2 c = let f = following _ _ _ _ _ _ (c .before .before .before .before .before .before .before .before .before .before .before .before .loop .inv .0) _ (c .before .before .before .before .before .before .before .before .before .before .accepted-instruction .ensures) (search needs) (c .before .before .before .before .before .before .before .before .read .given .1) in
-    lay-stopped _ _ _ _ _ _ _ _ _ (c .before .before .before .before .meet .ensures .0) _ _ (f .split) (not-end _ (c .match2 .keys2)) ∙ c .before .before .before .before .before .before .before .before .before .before .before .before .loop .inv .1
+returns c = let f = following _ _ _ _ _ _ (c .before .before .before .before .before .before .before .before .loop .inv .0) _ (search needs) (c .before .before .before .before .meet .ensures .1 .1) in
+    lay-stopped _ _ _ _ _ _ _ _ _ (c .before .before .before .before .meet .ensures .0) _ _ (f .split) (not-end _ (c .match .keys2)) ∙ c .before .before .before .before .before .before .before .before .loop .inv .1
 
 sub-left : tie.Need-sub-left Inv-loop μ-loop
 sub-left c = search needs
@@ -61,14 +45,14 @@ loop-less : tie.Need-loop-less Inv-loop μ-loop
 loop-less c = search needs
 
 loop-again : tie.Need-loop-again Inv-loop μ-loop
-loop-again c = let f = following _ _ _ _ _ _ (c .before .before .before .before .before .before .before .before .before .before .before .before .before .loop .inv .0) _ (c .before .before .before .before .before .before .before .before .before .before .before .accepted-instruction .ensures) (search needs) (c .before .before .before .before .before .before .before .before .before .read .given .1) in
-    (f .others, lay-onward _ _ _ _ _ _ _ _ _ (c .before .before .before .before .before .meet .ensures .0) _ _ (f .split) _ (c .enum-told2 .given .1) (c .before .before .before .before .before .meet .ensures .1 .0) (omega (arith, c .before .before .before .before .before .before .before .before .before .before .before .before .before .before .before .before .before .before .before .good)) ∙ c .before .before .before .before .before .before .before .before .before .before .before .before .before .loop .inv .1, c .enum-told2 .given .1, omega (arith, c .before .before .before .before .before .before .before .before .before .before .before .before .before .loop .inv .3, c .before .before .before .before .before .meet .ensures .1 .1), search needs, search needs)
+loop-again c = let f = following _ _ _ _ _ _ (c .before .before .before .before .before .before .before .before .before .loop .inv .0) _ (search needs) (c .before .before .before .before .before .meet .ensures .1 .1) in
+    (f .others, lay-onward _ _ _ _ _ _ _ _ _ (c .before .before .before .before .before .meet .ensures .0) _ _ (f .split) _ (c .enum-told .given .1) (c .before .before .before .before .before .meet .ensures .1 .0 .0) (omega (arith, c .before .before .before .before .before .before .before .before .before .before .before .before .before .before .before .good)) ∙ c .before .before .before .before .before .before .before .before .before .loop .inv .1, c .enum-told .given .1, omega (arith, c .before .before .before .before .before .before .before .before .before .loop .inv .3, c .before .before .before .before .before .meet .ensures .1 .0 .1), search needs, search needs)
 
-same-length-3 : tie.Need-same-length-3 Inv-loop μ-loop
-same-length-3 c = search needs
+same-length-2 : tie.Need-same-length-2 Inv-loop μ-loop
+same-length-2 c = search needs
 
-returns-3 : tie.Need-returns-3 Inv-loop μ-loop
-returns-3 c = lay-done _ _ _ _ _ _ (c .before .loop .inv .0) _ _ _ _ _ (c .before .loop .inv .2) (omega arith) (omega arith) ∙ c .before .loop .inv .1
+returns-2 : tie.Need-returns-2 Inv-loop μ-loop
+returns-2 c = lay-done _ _ _ _ _ _ (c .before .loop .inv .0) _ _ _ _ _ (c .before .loop .inv .2) (omega arith) (omega arith) ∙ c .before .loop .inv .1
 
 pub run-from-spec : {M : Type 1} → statement M
 run-from-spec =
@@ -77,18 +61,13 @@ run-from-spec =
     Inv-loop
     μ-loop
     loop-holds
-    sub-accepted-instruction
-    accepted-instruction-requires
-    enum-known-read
+    sub-meet
+    meet-requires
     enum-told
     same-length
     returns
-    meet-requires
-    enum-told-2
-    same-length-2
-    returns-2
     sub-left
     loop-less
     loop-again
-    same-length-3
-    returns-3)
+    same-length-2
+    returns-2)

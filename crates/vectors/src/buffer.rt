@@ -1,12 +1,16 @@
 // A lent buffer: its content before a call, and how it is written after.
+ghost use mathlib.Core.Path.{_≡_};
 ghost use Prim.Native.Nat.{_<_};
+ghost use lib.ListN.{length};
 ghost use Rattle.io.specs.Counts.{Counts};
+ghost use Rattle.vectors.specs.Input.{content, lentOf};
 use crate::write::write_comma;
 use crate::write::write_hex;
 use libc::STDOUT_FILENO;
 
-// How many bytes of `space` are lent: as many as a case says, at most all.
+// How many bytes of `space` are lent: as many as a case says, at most all. Callers lend them by the second clause.
 pub fn lent(space: &[u8], length: usize) -> usize
+    ensures { λ r. ⌜ r ≡ lentOf (now (space .entry)) length ⌝ }
     ensures { λ r. ⌜ Counts r (now (space .entry)) ⌝ }
 {
     if length < space.len() {
@@ -17,7 +21,9 @@ pub fn lent(space: &[u8], length: usize) -> usize
 }
 
 // The content of a lent buffer before a call: byte i is (i * 7 + 13) mod 256.
-pub fn fill(out: &mut [u8]) {
+pub fn fill(out: &mut [u8])
+    ensures { λ r. ⌜ now (out .exit) ≡ content (length (now (out .entry))) ⌝ }
+{
     let mut i = 0;
     while i < out.len() {
         out[i] = ((i % 256 * 7 + 13) % 256) as u8;

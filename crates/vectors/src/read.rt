@@ -1,7 +1,8 @@
 // Numbers and slices at a place of the input.
 ghost use mathlib.Core.Path.{_≡_};
-ghost use Prim.Native.Nat.{_≤_, _<_};
+ghost use Prim.Native.Nat.{_<_};
 ghost use lib.ListN.{length};
+ghost use Rattle.vectors.specs.Input.{onward, byteAt, pairAt, numberAt, longAt, signedOf, sliceAt, sliceEnd};
 
 // Zeros, with room for all of an input of up to 300,000 bytes. The contract gives the length, which lending them needs.
 pub fn input() -> [u8; 300000]
@@ -12,7 +13,7 @@ pub fn input() -> [u8; 300000]
 
 // The place so many bytes on, at most the greatest number.
 pub fn past(at: usize, count: usize) -> usize
-    ensures { λ r. ⌜ at ≤ r ⌝ }
+    ensures { λ r. ⌜ r ≡ onward at count ⌝ }
 {
     if at <= 18446744073709551615 - count {
         at + count
@@ -22,12 +23,15 @@ pub fn past(at: usize, count: usize) -> usize
 }
 
 // The byte at a place.
-pub fn byte(s: &[u8], at: usize) -> u8 {
+pub fn byte(s: &[u8], at: usize) -> u8
+    ensures { λ r. ⌜ r ≡ byteAt (now (s .entry)) at ⌝ }
+{
     if at < s.len() { s[at] } else { 0 }
 }
 
 // The same as a number.
 fn wide(s: &[u8], at: usize) -> usize
+    ensures { λ r. ⌜ r ≡ byteAt (now (s .entry)) at ⌝ }
     ensures { λ r. ⌜ r < 256 ⌝ }
 {
     byte(s, at) as usize
@@ -35,6 +39,7 @@ fn wide(s: &[u8], at: usize) -> usize
 
 // The number of two bytes at a place, the lowest first.
 fn pair(s: &[u8], at: usize) -> usize
+    ensures { λ r. ⌜ r ≡ pairAt (now (s .entry)) at ⌝ }
     ensures { λ r. ⌜ r < 65536 ⌝ }
 {
     wide(s, at) + wide(s, past(at, 1)) * 256
@@ -42,18 +47,23 @@ fn pair(s: &[u8], at: usize) -> usize
 
 // The number of four bytes at a place, the lowest first.
 pub fn number(s: &[u8], at: usize) -> usize
+    ensures { λ r. ⌜ r ≡ numberAt (now (s .entry)) at ⌝ }
     ensures { λ r. ⌜ r < 4294967296 ⌝ }
 {
     pair(s, at) + pair(s, past(at, 2)) * 65536
 }
 
 // The number of eight bytes at a place, the lowest first.
-pub fn long_number(s: &[u8], at: usize) -> usize {
+pub fn long_number(s: &[u8], at: usize) -> usize
+    ensures { λ r. ⌜ r ≡ longAt (now (s .entry)) at ⌝ }
+{
     number(s, at) + number(s, past(at, 4)) * 4294967296
 }
 
 // The number of four bytes at a place, with its sign in two's complement.
-pub fn signed(s: &[u8], at: usize) -> i32 {
+pub fn signed(s: &[u8], at: usize) -> i32
+    ensures { λ r. ⌜ r ≡ signedOf (numberAt (now (s .entry)) at) ⌝ }
+{
     let n = number(s, at);
     if n < 2147483648 {
         n as i32
@@ -63,7 +73,9 @@ pub fn signed(s: &[u8], at: usize) -> i32 {
 }
 
 // The bytes of a slice at a place, behind their length.
-pub fn slice(s: &[u8], at: usize) -> &[u8] {
+pub fn slice(s: &[u8], at: usize) -> &[u8]
+    ensures { λ r. ⌜ now r ≡ sliceAt (now (s .entry)) at ⌝ }
+{
     let from = past(at, 4);
     let end = past(from, number(s, at));
     if s.len() < end {
@@ -73,6 +85,8 @@ pub fn slice(s: &[u8], at: usize) -> &[u8] {
 }
 
 // The place behind a slice.
-pub fn past_slice(s: &[u8], at: usize) -> usize {
+pub fn past_slice(s: &[u8], at: usize) -> usize
+    ensures { λ r. ⌜ r ≡ sliceEnd (now (s .entry)) at ⌝ }
+{
     past(past(at, 4), number(s, at))
 }

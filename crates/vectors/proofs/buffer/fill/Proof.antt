@@ -1,18 +1,21 @@
--- `fill` is safe and ends: every store is inside the buffer, whose length stays.
+-- `fill` meets its contract: the bytes before the place are those of the content, and the length stays.
 use borrow.Author.Needs.{needs}
-use Prim.Native.Nat.{_-_}
-use mathlib.Core.Path.{_≡_}
-use lib.ListN.{length}
+use Prim.Native.Nat.{_-_, _≤_}
+use mathlib.Core.Path.{_≡_, ap, _∙_}
+use lib.ListN.{length, take}
+use Rattle.vectors.specs.Input.{content}
+use Rattle.vectors.proofs.Content.{content-more, content-all}
 use Rattle.vectors.proofs.buffer.fill.Statement.{statement}
 use Rattle.vectors.proofs.buffer.fill.Tie as tie
 
 abbrev Inv-loop : tie.InvT-loop
-Inv-loop out₀ i₀ out i = length out ≡ length out₀
+Inv-loop out₀ i₀ out i = (length out ≡ length out₀) × (i ≤ length out₀) × (take i out ≡ content i)
 
 abbrev μ-loop : tie.MeasureT-loop
 μ-loop out₀ i₀ out i = length out₀ - i
 
 loop-holds : tie.Need-loop-holds Inv-loop μ-loop
+unfolding content
 loop-holds c = search needs
 
 mul-out : tie.Need-mul-out Inv-loop μ-loop
@@ -34,13 +37,13 @@ loop-less : tie.Need-loop-less Inv-loop μ-loop
 loop-less c = search needs
 
 loop-again : tie.Need-loop-again Inv-loop μ-loop
-loop-again c = search needs
+loop-again c = (search needs, search needs, content-more _ _ (c .loop-test .taken) (c .before .loop .inv .2))
 
 same-length : tie.Need-same-length Inv-loop μ-loop
 same-length c = search needs
 
 returns : tie.Need-returns Inv-loop μ-loop
-returns c = search needs
+returns c = content-all _ _ (search needs) (search needs) (c .before .loop .inv .2) ∙ ap content (c .before .loop .inv .0)
 
 pub fill-spec : {M : Type 1} → statement M
 fill-spec =

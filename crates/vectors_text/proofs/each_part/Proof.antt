@@ -1,8 +1,8 @@
 -- `each_part` is safe and ends: it goes through the parts.
 use borrow.Author.Needs.{needs}
 use Prim.Native.Nat.{_-_}
-use Rattle.vectors_text.proofs.read.each_part.Statement.{statement}
-use Rattle.vectors_text.proofs.read.each_part.Tie as tie
+use Rattle.vectors_text.proofs.each_part.Statement.{statement}
+use Rattle.vectors_text.proofs.each_part.Tie as tie
 
 abbrev Inv-loop : tie.InvT-loop
 Inv-loop bytes by count k₀ k = Unit {0}

@@ -1,9 +1,9 @@
 // The lines of the transcript, each written at the front of its unwritten tail.
-// A line is stored as far as the buffer goes, and counted to its end: `poured` (crate output) says both. A C line is written in pieces, one for
-// each option. Any text, any place and any buffer will do.
+// A line is stored as far as the buffer goes, and counted to its end: `poured` (crate output) says both. A C line is written in pieces: its
+// question, and its end behind the options. Any text, any place and any buffer will do.
 ghost use mathlib.Core.Path.{_≡_};
 ghost use mathlib.Core.List.{[], _∷_, _++_};
-ghost use Rattle.text.specs.Parts.{comma, LF};
+ghost use Rattle.text.specs.Parts.{LF};
 ghost use Rattle.output.specs.Pour.{poured};
 ghost use Rattle.transcript.specs.State.{asked, answered, shown, ruled, lineBytes};
 ghost use Rattle.transcript.specs.Offered.{offerBytes};
@@ -70,13 +70,6 @@ pub fn put_offer(out: &mut [u8], at: usize, text: &[u8]) -> usize
     ensures { λ r. ⌜ (r, now (out .exit)) ≡ poured at (offerBytes (now (text .entry))) (now (out .entry)) ⌝ }
 {
     texts_at(out, at, b"C,", text, b"")
-}
-
-// .. then each option ..
-pub fn put_option(out: &mut [u8], at: usize, text: &[u8]) -> usize
-    ensures { λ r. ⌜ (r, now (out .exit)) ≡ poured at (comma ∷ now (text .entry)) (now (out .entry)) ⌝ }
-{
-    texts_at(out, at, b",", text, b"")
 }
 
 // .. and its end.

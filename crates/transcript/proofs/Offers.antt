@@ -1,7 +1,7 @@
 -- A C line written in pieces: its question, its options one by one, and its end.
 use Prim.Native.Nat.{ℕ, _≤_, _<_}
-use mathlib.Core.Path.{_≡_, sym, ap, _∙_}
-use mathlib.Core.List.{List, [], _∷_, _++_, append-nil, append-assoc}
+use mathlib.Core.Path.{_≡_, ap, _∙_}
+use mathlib.Core.List.{List, [], _∷_, _++_, append-nil}
 use lib.ListN.{length}
 use Rattle.text.specs.Parts.{join, comma, LF}
 use Rattle.text.specs.Text.{Text}
@@ -22,26 +22,12 @@ pub offered-bytes : (t : Text) (options : List Text) → (offerBytes t ++ option
 unfolding lineBytes join
 offered-bytes t options = ap (λ (b : List ℕ). offerBytes b ++ (LF ∷ [])) (join-commas t options)
 
--- one option more
-pub options-bytes : (options : List Text) (o : Text) → optionsBytes options ++ (comma ∷ o) ≡ optionsBytes (options ++ (o ∷ []))
-unfolding optionsBytes
-options-bytes [] o = sym (append-nil (comma ∷ o))
-options-bytes (p ∷ options) o =
-    append-assoc (comma ∷ p) (optionsBytes options) (comma ∷ o) ∙ ap (λ (b : List ℕ). (comma ∷ p) ++ b) (options-bytes options o)
-
 -- ---- the writing
 
 -- no option yet
 pub write-none : (at : ℕ) (out : List ℕ) → at ≤ 18446744073709551615 → (at, out) ≡ poured at (optionsBytes []) out
 unfolding optionsBytes
 write-none at out h = none at out h
-
--- one option more
-pub write-option : (options : List Text) (o : Text) (at x : ℕ) (out mid : List ℕ) (y : ℕ × List ℕ)
-    → (x, mid) ≡ poured at (optionsBytes options) out → y ≡ poured x (comma ∷ o) mid → length out < 9223372036854775808
-    → y ≡ poured at (optionsBytes (options ++ (o ∷ []))) out
-write-option options o at x out mid y e f h =
-    then at (optionsBytes options) (comma ∷ o) out x mid y e f h ∙ ap (λ (b : List ℕ). poured at b out) (options-bytes options o)
 
 -- the question, the options and the end
 pub write-offered : (t : Text) (options : List Text) (at x y : ℕ) (out mid last : List ℕ) (z : ℕ × List ℕ)

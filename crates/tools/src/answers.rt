@@ -5,9 +5,12 @@ use decimals::Constant;
 use printed::front;
 ghost use mathlib.Core.Path.{_≡_};
 ghost use lib.ListN.{take};
+ghost use Rattle.tools.specs.Inputs.{Within};
 
 // The answers from argument `from` on, by the number rules of a guide's constants. Those that have no room are read too, and left out.
-pub fn read_answers(from: usize, space: &mut [i32]) -> Input {
+pub fn read_answers(from: usize, space: &mut [i32]) -> Input
+    ensures { λ r. ⌜ Within r (now (space .exit)) ⌝ }
+{
     let end = os::arg_count();
     let mut count = 0;
     let mut i = from;

@@ -3,9 +3,12 @@ use crate::Input;
 use crate::results::tell;
 use libc::STDIN_FILENO;
 use printed::front;
+ghost use Rattle.tools.specs.Inputs.{Within};
 
 // Reads until the space is full or the file ends.
-fn read_open(fd: i32, name: &[u8], space: &mut [u8]) -> Input {
+fn read_open(fd: i32, name: &[u8], space: &mut [u8]) -> Input
+    ensures { λ r. ⌜ Within r (now (space .exit)) ⌝ }
+{
     let mut done = 0;
     while done < space.len() {
         let got = libc::read(fd, &mut space[done..]);
@@ -23,7 +26,9 @@ fn read_open(fd: i32, name: &[u8], space: &mut [u8]) -> Input {
 }
 
 // The same of a file by its name.
-fn read_named(name: &[u8], space: &mut [u8]) -> Input {
+fn read_named(name: &[u8], space: &mut [u8]) -> Input
+    ensures { λ r. ⌜ Within r (now (space .exit)) ⌝ }
+{
     if text::same(name, b"-") {
         return read_open(STDIN_FILENO, name, space);
     }
@@ -38,7 +43,9 @@ fn read_named(name: &[u8], space: &mut [u8]) -> Input {
 }
 
 // The file that argument i names, as far as the space goes.
-pub fn read_file(i: usize, space: &mut [u8]) -> Input {
+pub fn read_file(i: usize, space: &mut [u8]) -> Input
+    ensures { λ r. ⌜ Within r (now (space .exit)) ⌝ }
+{
     let mut name = io::buffer();
     let length = os::arg(i, &mut name);
     if os::errno() != 0 {

@@ -1,6 +1,7 @@
 // What the tools share: input files, answers from the arguments, and what is written of a result.
 // A file is named by an argument; `-` is standard input. What cannot be read is told on standard error, in one line, and nothing is
-// printed. No contract can say what is read or written; the work is that of crate printed, on slices.
+// printed. No contract can say what is read or written; what is read has room in the lent space (specs/Inputs.antt). The work is that
+// of crate printed, on slices.
 mod answers;
 mod files;
 mod results;

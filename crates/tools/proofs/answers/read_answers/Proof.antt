@@ -1,6 +1,7 @@
--- `read_answers` is safe and ends: each turn leaves one argument less, and the space keeps its length.
+-- `read_answers` meets its contract: as many answers are stored as are counted, within the space, which keeps its length.
+-- It ends: each turn leaves one argument less.
 use borrow.Author.Needs.{needs}
-use Prim.Native.Nat.{_-_}
+use Prim.Native.Nat.{_-_, _≤_}
 use mathlib.Core.Path.{_≡_, ap, _∙_}
 use mathlib.Core.Logic.{⊎-elim}
 use lib.ListN.{length, length-set}
@@ -8,7 +9,7 @@ use Rattle.tools.proofs.answers.read_answers.Statement.{statement}
 use Rattle.tools.proofs.answers.read_answers.Tie as tie
 
 abbrev Inv-loop : tie.InvT-loop
-Inv-loop from space₀ end count₀ i₀ t7 t8 space count i = length space ≡ length space₀
+Inv-loop from space₀ end count₀ i₀ t7 t8 space count i = (length space ≡ length space₀) × (count ≤ length space₀)
 
 abbrev μ-loop : tie.MeasureT-loop
 μ-loop from space₀ end count₀ i₀ t7 t8 space count i = end - i
@@ -59,7 +60,11 @@ loop-less : tie.Need-loop-less Inv-loop μ-loop
 loop-less c = search needs
 
 loop-again : tie.Need-loop-again Inv-loop μ-loop
-loop-again c = ⊎-elim (λ w. ap length (w .1) ∙ simp length-set (search needs)) (λ w. search needs) (c .if1 .came)
+loop-again c =
+    ⊎-elim
+    (λ w. (ap length (w .1) ∙ simp length-set (search needs), search needs))
+    (λ w. search needs)
+    (c .if1 .came)
 
 same-length-2 : tie.Need-same-length-2 Inv-loop μ-loop
 same-length-2 c = search needs

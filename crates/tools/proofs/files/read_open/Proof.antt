@@ -1,4 +1,4 @@
--- `read_open` is safe and ends: each turn reads a byte or more, and the space keeps its length.
+-- `read_open` meets its contract: what is read stands within the space, which keeps its length. It ends: each turn reads a byte or more.
 use borrow.Author.Needs.{needs}
 use Prim.Native.Nat.{_≤_, _-_}
 use mathlib.Core.Path.{_≡_}

@@ -57,7 +57,9 @@ pub fn read_file(i: usize, space: &mut [u8]) -> Input
 
 // The plate that the file of argument i has in hexadecimal, as far as the space goes. What stands behind a plate that is longer than
 // the space is not looked at.
-pub fn read_plate(i: usize, plate: &mut [u8]) -> Input {
+pub fn read_plate(i: usize, plate: &mut [u8]) -> Input
+    ensures { λ r. ⌜ Within r (now (plate .exit)) ⌝ }
+{
     let mut text = io::large_buffer();
     let Input::Holds(n) = read_file(i, &mut text) else {
         return Input::Unread;
@@ -66,7 +68,7 @@ pub fn read_plate(i: usize, plate: &mut [u8]) -> Input {
     let count = found.count;
     let fault = found.fault;
     if plate.len() <= count {
-        return Input::Holds(count);
+        return Input::Holds(plate.len());
     }
     if text.len() <= n {
         tell(b"plate file of more than ", n - 1, b" bytes\n");

@@ -31,7 +31,9 @@ fn each_part(bytes: &[u8], by: u8, count: usize) {
 }
 
 // How many parts there are, and the parts.
-fn read_parts(s: &[u8], at: usize) -> usize {
+fn read_parts(s: &[u8], at: usize) -> usize
+    ensures { λ r. ⌜ r ≡ sliceEnd (now (s .entry)) (onward at 4) ⌝ }
+{
     let by = vectors::byte(s, at);
     let first = vectors::past(at, 4);
     let bytes = vectors::slice(s, first);
@@ -43,7 +45,9 @@ fn read_parts(s: &[u8], at: usize) -> usize {
 }
 
 // Whether the fields from one on are texts.
-fn read_texts(s: &[u8], at: usize) -> usize {
+fn read_texts(s: &[u8], at: usize) -> usize
+    ensures { λ r. ⌜ r ≡ sliceEnd (now (s .entry)) (onward at 8) ⌝ }
+{
     let from = vectors::long_number(s, at);
     let first = vectors::past(at, 8);
     vectors::write_yes(text::are_texts(vectors::slice(s, first), from));
@@ -52,7 +56,9 @@ fn read_texts(s: &[u8], at: usize) -> usize {
 }
 
 // A number up to a limit.
-fn read_natural(s: &[u8], at: usize) -> usize {
+fn read_natural(s: &[u8], at: usize) -> usize
+    ensures { λ r. ⌜ r ≡ sliceEnd (now (s .entry)) (onward at 4) ⌝ }
+{
     let limit = vectors::number(s, at) as u32;
     let first = vectors::past(at, 4);
     match decimals::read_natural(vectors::slice(s, first), limit) {
@@ -84,7 +90,9 @@ fn read_constant(s: &[u8], at: usize) -> usize
 }
 
 // Whether two slices hold the same bytes.
-fn read_same(s: &[u8], at: usize) -> usize {
+fn read_same(s: &[u8], at: usize) -> usize
+    ensures { λ r. ⌜ r ≡ sliceEnd (now (s .entry)) (sliceEnd (now (s .entry)) at) ⌝ }
+{
     let one = vectors::slice(s, at);
     let second = vectors::past_slice(s, at);
     vectors::write_yes(text::same(one, vectors::slice(s, second)));
@@ -93,7 +101,9 @@ fn read_same(s: &[u8], at: usize) -> usize {
 }
 
 // The first place of a byte from a place on, which is at most the length.
-fn read_find(s: &[u8], at: usize) -> usize {
+fn read_find(s: &[u8], at: usize) -> usize
+    ensures { λ r. ⌜ r ≡ sliceEnd (now (s .entry)) (onward at 12) ⌝ }
+{
     let from = vectors::long_number(s, at);
     let byte = vectors::byte(s, vectors::past(at, 8));
     let first = vectors::past(at, 12);

@@ -10,6 +10,7 @@ ghost use Rattle.text.specs.Parts.{split, comma};
 ghost use Rattle.transcript.specs.Statement.{inputs};
 ghost use Rattle.transcript.specs.Perform as statement;
 ghost use Rattle.transcript.specs.Machine.{machineState, laid, performed};
+ghost use Rattle.lines.specs.Answers.{Heads};
 ghost use Rattle.walk_blocks.specs.Says.{statementBy, Says};
 
 // inputs: the question with its options, which stand in the line as they do in the C line, and the answer.
@@ -43,7 +44,7 @@ pub fn perform(
     at: usize,
     m: Machine,
 ) -> Performed
-    requires { ⌜ Says head (split comma (now line)) × (m .steps < 18446744073709551615) ⌝ }
+    requires { ⌜ Says head (split comma (now line)) × Heads head (now line) × (m .steps < 18446744073709551615) ⌝ }
     ensures { λ r. ⌜ performed (now (registers .exit)) (now (answers .entry)) r (now (out .exit)) ≡ laid at (statement.perform (statementBy head (split comma (now (line .entry)))) (machineState (now (registers .entry)) (now (answers .entry)) m)) (now (out .entry)) ⌝ }
     ensures { λ r. ⌜ r .machine .steps ≡ m .steps + 1 ⌝ }
 {
@@ -60,7 +61,7 @@ pub fn perform(
         Head::Inputs { register, options } => {
             offer(line, register, options, answers, registers, out, at, m)
         }
-        Head::Print => statements::show(out, at, text::part(line, b',', 1), m),
-        _ => statements::rule(out, at, text::part(line, b',', 1), m),
+        Head::Print => statements::show(out, at, &line[6..], m),
+        _ => statements::rule(out, at, &line[8..], m),
     }
 }

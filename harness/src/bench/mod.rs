@@ -42,16 +42,17 @@ impl Subject {
                 model::write_plate(&self.listing, &self.book).expect("an accepted listing")
             }
         };
-        Work { call, input, book: self.book.clone(), answers: self.answers.clone() }
+        Work { call, input, book: self.book.clone(), answers: self.answers.clone(), room: MOST }
     }
 }
 
-/// A call and what it is given.
+/// A call and what it is given: `room` is the length of the lent output.
 pub struct Work {
     pub call: Call,
     pub input: Vec<u8>,
     pub book: Vec<u8>,
     pub answers: Vec<i32>,
+    pub room: usize,
 }
 
 impl Work {
@@ -62,21 +63,31 @@ impl Work {
             book: &self.book,
             answers: &self.answers,
             scratch: &mut memory.scratch,
-            output: &mut memory.output,
+            output: &mut memory.output[..self.room],
+        }
+    }
+
+    /// The same with an output as long as the result, which walk, run and read_plate make in two passes.
+    pub fn exact(mut self) -> Work {
+        self.room = perform(&Model, &self.case()).answer.length as usize;
+        self
+    }
+
+    fn case(&self) -> Case {
+        Case {
+            call: self.call,
+            input: self.input.clone(),
+            book: self.book.clone(),
+            answers: self.answers.clone(),
+            room: self.room,
+            scratch: SCRATCH,
+            fill: 1,
         }
     }
 
     /// The library and the model accept the input, and leave the same.
     pub fn check(&self) {
-        let case = Case {
-            call: self.call,
-            input: self.input.clone(),
-            book: self.book.clone(),
-            answers: self.answers.clone(),
-            room: MOST,
-            scratch: SCRATCH,
-            fill: 1,
-        };
+        let case = self.case();
         let expected = perform(&Model, &case);
         assert!(expected.answer.is_accepted(), "{}: the model refuses", self.call.name());
         assert!(perform(&Library, &case) == expected, "{}: a difference", self.call.name());

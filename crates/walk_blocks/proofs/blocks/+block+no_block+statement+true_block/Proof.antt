@@ -191,7 +191,7 @@ no-block-returns-3 t c = (no-else _ _ _ _ (c .before .before .before .before .be
 statement-perform-requires : (t : ℕ) → statement-lts.Need-perform-requires (statement-calls t) (statement-at t) statement′.Post
 statement-perform-requires t c κs =
     let s = c .before .before .before .before .before .before .pre .1 .0 in
-    (line-says _ _ (s .head) (ap beginsBy (sym (s .role)) ∙ c .before .before .before .before .before .before .pre .1 .1) (no-if _ (c .before .before .before .match .keys2)), search needs)
+    (line-says _ _ (s .head) (ap beginsBy (sym (s .role)) ∙ c .before .before .before .before .before .before .pre .1 .1) (no-if _ (c .before .before .before .match .keys2)), (aGuide, s .head), search needs)
 
 statement-returns : (t : ℕ) → statement-lts.Need-returns (statement-calls t) (statement-at t) statement′.Post
 statement-returns t c =

@@ -1,6 +1,9 @@
 -- `perform` meets its contract, by cases on the head.
-use Rattle.walk_blocks.proofs.LineStatements.{is-printex}
+use mathlib.Core.Path.{sym, _∙_}
 use borrow.Author.Needs.{needs}
+use Rattle.lines.proofs.FieldPlaces.{whole-rest}
+use Rattle.lines.proofs.LineTexts.{texts}
+use Rattle.walk_blocks.proofs.LineStatements.{is-printex}
 use Rattle.walk_blocks.proofs.perform.perform.Statement.{statement}
 use Rattle.walk_blocks.proofs.perform.perform.Tie as tie
 
@@ -24,14 +27,26 @@ offer-requires c κs =
 enum-told : tie.Need-enum-told
 enum-told c = search needs
 
-part-requires-2 : tie.Need-part-requires-2
-part-requires-2 c κs = search needs
+sub-show : tie.Need-sub-show
+sub-show c = texts _ _ _ (c .before .before .before .before .before .pre .1) (c .before .enum-told .given .1) .1
+
+part-show-start : tie.Need-part-show-start
+part-show-start c = texts _ _ _ (c .before .before .before .before .before .pre .1) (c .before .enum-told .given .1) .1
+
+part-show-end : tie.Need-part-show-end
+part-show-end c = search needs
 
 show-requires : tie.Need-show-requires
 show-requires c κs = search needs
 
-part-requires-3 : tie.Need-part-requires-3
-part-requires-3 c κs = search needs
+sub-rule : tie.Need-sub-rule
+sub-rule c = let start = c .before .before .before .before in texts _ _ _ (start .pre .1) (is-printex _ _ (start .pre .0) (c .before .match .keys4)) .1
+
+part-rule-start : tie.Need-part-rule-start
+part-rule-start c = let start = c .before .before .before .before in texts _ _ _ (start .pre .1) (is-printex _ _ (start .pre .0) (c .before .match .keys4)) .1
+
+part-rule-end : tie.Need-part-rule-end
+part-rule-end c = search needs
 
 rule-requires : tie.Need-rule-requires
 rule-requires c κs = search needs
@@ -52,13 +67,21 @@ same-length-3 : tie.Need-same-length-3
 same-length-3 c = search needs
 
 returns-3 : tie.Need-returns-3
-returns-3 c = (simp (c .before .before .before .before .before .enum-told .given .1) (rw (c .before .before .before .part2 .ensures) at (c .before .before .show .ensures .0 (c .before .before .before .before .before .before .before .before .before .args .registers .now) (c .before .before .before .before .before .before .before .before .before .args .answers .now))), c .before .before .show .ensures .1 .0)
+returns-3 c =
+    let start = c .before .before .before .before .before .before .before .before .before in
+    let e = c .before .before .before .before .before .enum-told .given .1 in
+    let t = whole-rest (start .args .line .now) 6 ∙ sym (texts _ _ _ (start .pre .1) e .0) in
+    (simp e (rw t at (c .before .before .show .ensures .0 (start .args .registers .now) (start .args .answers .now))), c .before .before .show .ensures .1 .0)
 
 same-length-4 : tie.Need-same-length-4
 same-length-4 c = search needs
 
 returns-4 : tie.Need-returns-4
-returns-4 c = (rw (is-printex (c .before .before .before .before .before .before .before .before .args .head) _ (c .before .before .before .before .before .before .before .before .pre .0) (c .before .before .before .before .before .match .keys4)) (rw (c .before .before .before .part3 .ensures) at (c .before .before .rule .ensures .0 (c .before .before .before .before .before .before .before .before .args .registers .now) (c .before .before .before .before .before .before .before .before .args .answers .now))), c .before .before .rule .ensures .1 .0)
+returns-4 c =
+    let start = c .before .before .before .before .before .before .before .before in
+    let e = is-printex (start .args .head) _ (start .pre .0) (c .before .before .before .before .before .match .keys4) in
+    let t = whole-rest (start .args .line .now) 8 ∙ sym (texts _ _ _ (start .pre .1) e .0) in
+    (rw e (rw t at (c .before .before .rule .ensures .0 (start .args .registers .now) (start .args .answers .now))), c .before .before .rule .ensures .1 .0)
 
 pub perform-spec : {M : Type 1} → statement M
 perform-spec =
@@ -70,9 +93,13 @@ perform-spec =
     enum-known-head-2
     offer-requires
     enum-told
-    part-requires-2
+    sub-show
+    part-show-start
+    part-show-end
     show-requires
-    part-requires-3
+    sub-rule
+    part-rule-start
+    part-rule-end
     rule-requires
     same-length
     returns

@@ -83,10 +83,13 @@ pub fn accepted_head(plate: &[u8], at: usize) -> Head
     let Field::Is(code, next) = field else {
         return Head::Goto { skip: 0, next: at };
     };
+    // Most instructions are prints.
+    if code == 2 {
+        return Head::Print { text: next };
+    }
     match code {
         0 => input_head(plate, next),
         1 => inputs_head(plate, next),
-        2 => Head::Print { text: next },
         3 => Head::Printex { text: next },
         4 => goto_head(plate, next),
         _ => if_head(plate, next),

@@ -2,21 +2,21 @@
 use Prim.Native.Nat.{ℕ, zero, suc, _+_, _-_, _<_}
 use mathlib.Core.Path.{_≡_, refl, sym, ap, _∙_}
 use mathlib.Core.List.{List, [], _∷_}
-use mathlib.Core.Bool.{true, false, false≢true}
+use mathlib.Core.Bool.{true, false, _&&_, and-true, false≢true}
 use native.Mathlib.Numerals.{sub-one}
 use native.Mathlib.Omega.{arith}
 use lib.ListN.{length, getD}
 use borrow.Author.Tests.{leb-true}
 use Rattle.causes.specs.declared.Cause.{Cause}
-use Rattle.causes.specs.declared.Cause.the-variants.{Unused}
-use Rattle.text.specs.Text.{Text}
+use Rattle.causes.specs.declared.Cause.the-variants.{Unused, Spelling}
+use Rattle.text.specs.Text.{Text, textSize}
 use Rattle.phrases.specs.Phrases.{Phrases, place, find, isNew}
 use Rattle.phrases.specs.Lookup.{bookTexts, ownTexts}
 use Rattle.phrases.specs.Index.{Indexed}
 use Rattle.phrases.proofs.Entries.{indexed-count}
 use Rattle.plate.specs.Reading.{Place, Read, got, stopped, Reader, number, judged, return, onward, _>>=_, many}
 use Rattle.plate.specs.Plate.{isTextCode, textBy, text, spelled, phrase}
-use Rattle.fields.specs.Places.{placeAt, endWith, Known}
+use Rattle.fields.specs.Places.{placeAt, untilETX, endWith, Known}
 use Rattle.plate_texts.proofs.Known.{known-first, known-judged}
 use Rattle.plate_texts.specs.TextsAt.{codeWith}
 use Rattle.plate.proofs.Readers.{gives-number, gives-judged}
@@ -82,6 +82,14 @@ none-there index book own count t x e z = go (bookTexts book) (omega (arith, ind
     go [] h zero w = refl
     go [] h (suc k) w = absurd (omega arith)
     go (u ∷ us) h k w = absurd (omega arith)
+
+-- so that only its size is judged
+pub new-spelled : (plate index book own : List ℕ) (count at : ℕ) → Indexed index book → getD index 0 0 + count ≡ 0
+    → judged untilETX textSize Spelling (placeAt plate at) ≡ spelled (bookTexts book) (ownTexts count own) (placeAt plate at)
+unfolding spelled
+new-spelled plate index book own count at x e =
+    judged-alike untilETX _ Spelling plate at textSize
+    (λ t. sym (ap (λ v. textSize t && v) (none-there index book own count t x (omega arith) (omega arith)) ∙ and-true (textSize t)))
 
 -- ---- one behind the other
 

@@ -1,12 +1,14 @@
 // A text that is spelled out: its characters up to ETX, judged as a whole at its first bit.
 ghost use mathlib.Core.Path.{_≡_};
 ghost use mathlib.Core.Bool.{_&&_};
-ghost use Prim.Native.Nat.{_≤_};
-ghost use lib.ListN.{length};
+ghost use Prim.Native.Nat.{_+_, _≤_};
+ghost use lib.ListN.{length, getD};
 ghost use Rattle.text.specs.Text.{textSize};
 ghost use Rattle.phrases.specs.Phrases.{isNew};
 ghost use Rattle.phrases.specs.Lookup.{bookTexts, ownTexts};
 ghost use Rattle.phrases.specs.Index.{Indexed};
+ghost use Rattle.causes.specs.declared.Cause.the-variants.{Spelling};
+ghost use Rattle.plate.specs.Reading.{judged};
 ghost use Rattle.plate.specs.Plate.{spelled};
 ghost use Rattle.fields.specs.Places.{placeAt, sizeRead, untilETX, valuesOf, Known};
 use causes::Cause;
@@ -47,11 +49,6 @@ fn is_good(
     if 64 < size {
         return false;
     }
-    if phrases::count_of(index) == 0 {
-        if count == 0 {
-            return true;
-        }
-    }
     let mut characters = [0u8; 64];
     copy_each(plate, bit, &mut characters, 0);
     is_new(index, book, own, count, &characters[..size])
@@ -80,6 +77,45 @@ pub fn read_spelled(
         cause: Cause::Spelling,
         place: at,
     })
+}
+
+// The same where there are no phrases: a text is held to none.
+fn read_new(plate: &[u8], at: usize) -> Field
+    requires { ⌜ length (now plate) ≤ 2953 ⌝ }
+    ensures { λ r. ⌜ sizeRead (now (plate .entry)) at r ≡ judged untilETX textSize Spelling (placeAt (now (plate .entry)) at) ⌝ }
+{
+    let field = read_size(plate, at);
+    let Field::Is(size, next) = field else {
+        return field;
+    };
+    if 0 < size {
+        if size <= 64 {
+            return Field::Is(size, next);
+        }
+    }
+    Field::Refused(Refusal {
+        cause: Cause::Spelling,
+        place: at,
+    })
+}
+
+// The same with n phrases in all.
+pub fn read_among(
+    plate: &[u8],
+    at: usize,
+    n: usize,
+    index: &[u32],
+    book: &[u8],
+    own: &[u8],
+    count: usize,
+) -> Field
+    requires { ⌜ (length (now plate) ≤ 2953) × Indexed (now index) (now book) × (n ≡ getD (now index) 0 0 + count) ⌝ }
+    ensures { λ r. ⌜ sizeRead (now (plate .entry)) at r ≡ spelled (bookTexts (now (book .entry))) (ownTexts count (now (own .entry))) (placeAt (now (plate .entry)) at) ⌝ }
+{
+    if n == 0 {
+        return read_new(plate, at);
+    }
+    read_spelled(plate, at, index, book, own, count)
 }
 
 // The same of a text that was read before: it is not judged again.

@@ -1,6 +1,6 @@
 // Texts of a plate that are read first: spelled out, or a phrase; and several, one behind the other.
 use crate::phrase_place::pass_phrase;
-use crate::spelled_text::read_spelled;
+use crate::spelled_text::read_among;
 use causes::Cause;
 use causes::Refusal;
 use fields::Field;
@@ -56,14 +56,15 @@ pub fn pass_text(
     requires { ⌜ Lent (now plate) (now index) (now book) (now own) count ⌝ }
     ensures { λ r. ⌜ fieldRead (now (plate .entry)) r ≡ endWith 0 (reader.text (phrasesIn (now (book .entry)) (now (own .entry)) count) (placeAt (now (plate .entry)) at)) ⌝ }
 {
-    let field = read_code(plate, at, phrases::count_of(index) + count);
+    let n = phrases::count_of(index) + count;
+    let field = read_code(plate, at, n);
     let Field::Is(code, bit) = field else {
         return field;
     };
     if code != 0 {
         return pass_phrase(plate, bit, index, book, own, count);
     }
-    let spelled = read_spelled(plate, bit, index, book, own, count);
+    let spelled = read_among(plate, bit, n, index, book, own, count);
     let Field::Is(_, next) = spelled else {
         return spelled;
     };

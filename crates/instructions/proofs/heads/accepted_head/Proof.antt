@@ -23,6 +23,11 @@ returns : tie.Need-returns
 unfolding instruction
 returns c = (λ ph behind w. absurd (w .good (then-stopped _ _ _ (field-refused _ _ (c .before .before .read-plain .ensures) (c .enum-told .given .1) ∙ code-read _ _ _ _ w))), search needs)
 
+returns-2 : tie.Need-returns-2
+unfolding headed
+returns-2 c = let e = field-got _ _ (c .before .before .before .before .read-plain .ensures) (c .before .before .field .given .1) in
+    (λ ph behind w. by-code _ _ _ _ w 2 e (fields-code _ _ _ 2 (c .if1 .taken)) (λ k. refl), search needs)
+
 input-head-requires : tie.Need-input-head-requires
 input-head-requires c κs = search needs
 
@@ -35,32 +40,27 @@ goto-head-requires c κs = search needs
 if-head-requires : tie.Need-if-head-requires
 if-head-requires c κs = search needs
 
-returns-2 : tie.Need-returns-2
-returns-2 c = let e = field-got _ _ (c .before .before .before .before .before .read-plain .ensures) (c .before .before .before .field .given .1) in
+returns-3 : tie.Need-returns-3
+returns-3 c = let e = field-got _ _ (c .before .before .before .before .before .before .read-plain .ensures) (c .before .before .before .before .field .given .1) in
     (λ ph behind w. by-code _ _ _ _ w 0 e (fields-code _ _ _ 0 (c .before .match2 .keys1)) (c .input-head .ensures .0 ph behind), c .input-head .ensures .1)
 
-returns-3 : tie.Need-returns-3
-returns-3 c = let e = field-got _ _ (c .before .before .before .before .before .read-plain .ensures) (c .before .before .before .field .given .1) in
-    (λ ph behind w. by-code _ _ _ _ w 1 e (fields-code _ _ _ 1 (c .before .match2 .keys2)) (c .inputs-head .ensures .0 ph behind), c .inputs-head .ensures .1)
-
 returns-4 : tie.Need-returns-4
-unfolding headed
-returns-4 c = let e = field-got _ _ (c .before .before .before .before .read-plain .ensures) (c .before .before .field .given .1) in
-    (λ ph behind w. by-code _ _ _ _ w 2 e (fields-code _ _ _ 2 (c .match2 .keys3)) (λ k. refl), search needs)
+returns-4 c = let e = field-got _ _ (c .before .before .before .before .before .before .read-plain .ensures) (c .before .before .before .before .field .given .1) in
+    (λ ph behind w. by-code _ _ _ _ w 1 e (fields-code _ _ _ 1 (c .before .match2 .keys2)) (c .inputs-head .ensures .0 ph behind), c .inputs-head .ensures .1)
 
 returns-5 : tie.Need-returns-5
 unfolding headed
-returns-5 c = let e = field-got _ _ (c .before .before .before .before .read-plain .ensures) (c .before .before .field .given .1) in
-    (λ ph behind w. by-code _ _ _ _ w 3 e (fields-code _ _ _ 3 (c .match2 .keys4)) (λ k. refl), search needs)
+returns-5 c = let e = field-got _ _ (c .before .before .before .before .before .read-plain .ensures) (c .before .before .before .field .given .1) in
+    (λ ph behind w. by-code _ _ _ _ w 3 e (fields-code _ _ _ 3 (c .match2 .keys3)) (λ k. refl), search needs)
 
 returns-6 : tie.Need-returns-6
-returns-6 c = let e = field-got _ _ (c .before .before .before .before .before .read-plain .ensures) (c .before .before .before .field .given .1) in
-    (λ ph behind w. by-code _ _ _ _ w 4 e (fields-code _ _ _ 4 (c .before .match2 .keys5)) (c .goto-head .ensures .0 ph behind), c .goto-head .ensures .1)
+returns-6 c = let e = field-got _ _ (c .before .before .before .before .before .before .read-plain .ensures) (c .before .before .before .before .field .given .1) in
+    (λ ph behind w. by-code _ _ _ _ w 4 e (fields-code _ _ _ 4 (c .before .match2 .keys4)) (c .goto-head .ensures .0 ph behind), c .goto-head .ensures .1)
 
 returns-7 : tie.Need-returns-7
-returns-7 c = let e = field-got _ _ (c .before .before .before .before .before .read-plain .ensures) (c .before .before .before .field .given .1) in
+returns-7 c = let e = field-got _ _ (c .before .before .before .before .before .before .read-plain .ensures) (c .before .before .before .before .field .given .1) in
     let h = c .before .match2 .rest in
-    (λ ph behind w. by-code _ _ _ _ w 5 e (fields-last _ _ _ _ (h .0 .0 .0 .0 .1) (h .0 .0 .0 .1) (h .0 .0 .1) (h .0 .1) (h .1)) (c .if-head .ensures .0 ph behind), c .if-head .ensures .1)
+    (λ ph behind w. by-code _ _ _ _ w 5 e (fields-last _ _ _ _ (h .0 .0 .0 .1) (h .0 .0 .1) (c .before .before .if1 .left) (h .0 .1) (h .1)) (c .if-head .ensures .0 ph behind), c .if-head .ensures .1)
 
 pub accepted-head-spec : {M : Type 1} → statement M
 accepted-head-spec =
@@ -70,11 +70,11 @@ accepted-head-spec =
     enum-known-field
     enum-told
     returns
+    returns-2
     input-head-requires
     inputs-head-requires
     goto-head-requires
     if-head-requires
-    returns-2
     returns-3
     returns-4
     returns-5

@@ -1,12 +1,10 @@
--- `is_good` meets its contract: the size, then the lookup of the copied characters, where there are phrases.
+-- `is_good` meets its contract: the size, then the lookup of the copied characters.
 use Prim.Native.Nat.{_≤_}
 use mathlib.Core.Path.{sym, ap, _∙_}
 use native.Mathlib.Omega.{arith}
 use lib.ListN.{length}
 use borrow.Author.Tests.{le-leb, lt-leb}
-use Rattle.fields.specs.Places.{placeAt, untilETX, valuesOf}
 use Rattle.fields.proofs.Copies.{copied-text}
-use Rattle.plate_texts.proofs.TextsRead.{none-there}
 use borrow.Author.Needs.{needs}
 use Rattle.plate_texts.proofs.spelled_text.is_good.Statement.{statement}
 use Rattle.plate_texts.proofs.spelled_text.is_good.Tie as tie
@@ -19,21 +17,6 @@ returns-2 c = let a = c .before .before .before .before .before .before in
     let h : 1 ≤ a .args .size = omega arith in
     simp (sym (a .pre .3), le-leb 1 _ h, lt-leb _ 64 (c .if2 .taken))
 
-count-of-requires : tie.Need-count-of-requires
-count-of-requires c κs = search needs
-
-returns-3 : tie.Need-returns-3
-returns-3 c = let a = c .before .before .before .before .before .before .before .before .before in
-    let h : 1 ≤ a .args .size = omega arith in
-    simp (
-      sym (a .pre .3),
-      le-leb 1 _ h,
-      le-leb _ 64 (c .before .before .before .if2 .left),
-      none-there (a .args .index .now) (a .args .book .now) (a .args .own .now) (a .args .count)
-          (valuesOf (untilETX (placeAt (a .args .plate .now) (a .args .bit)))) (a .pre .1)
-          (omega (arith, c .before .before .count-of .ensures, c .before .if3 .taken)) (c .if4 .taken),
-    )
-
 slice-aggregate-copy-each : tie.Need-slice-aggregate-copy-each
 slice-aggregate-copy-each c = search needs
 
@@ -44,18 +27,18 @@ array-share-prefix-characters : tie.Need-array-share-prefix-characters
 array-share-prefix-characters c = search needs
 
 slice-aggregate-is-new : tie.Need-slice-aggregate-is-new
-slice-aggregate-is-new c = let a = c .before .before .before .before .before .before .before .before .before .before .before .before in
+slice-aggregate-is-new c = let a = c .before .before .before .before .before .before .before .before .before .before in
     let t = copied-text (a .args .size) _ _ _ _ (a .pre .3) (omega arith) (c .before .before .copy-each .ensures .0) in
     a .pre .3 ∙ sym (ap length t)
 
 is-new-requires : tie.Need-is-new-requires
 is-new-requires c κs = search needs
 
-returns-4 : tie.Need-returns-4
-returns-4 c = let a = c .before .before .before .before .before .before .before .before .before .before .before .before .before in
+returns-3 : tie.Need-returns-3
+returns-3 c = let a = c .before .before .before .before .before .before .before .before .before .before .before in
     let h : 1 ≤ a .args .size = omega arith in
     let t = copied-text (a .args .size) _ _ _ _ (a .pre .3) (omega arith) (c .before .before .before .copy-each .ensures .0) in
-    simp (sym (a .pre .3), le-leb 1 _ h, le-leb _ 64 (c .before .before .before .before .before .before .before .if2 .left)) (rw t at (c .is-new .ensures))
+    simp (sym (a .pre .3), le-leb 1 _ h, le-leb _ 64 (c .before .before .before .before .before .if2 .left)) (rw t at (c .is-new .ensures))
 
 pub is-good-spec : {M : Type 1} → statement M
 is-good-spec =
@@ -63,11 +46,9 @@ is-good-spec =
     (tie.spec
     returns
     returns-2
-    count-of-requires
-    returns-3
     slice-aggregate-copy-each
     copy-each-requires
     array-share-prefix-characters
     slice-aggregate-is-new
     is-new-requires
-    returns-4)
+    returns-3)

@@ -29,8 +29,8 @@ code-read c =
 count-of-requires : tie.Need-count-of-requires
 count-of-requires c κs = search needs
 
-add-read-code : tie.Need-add-read-code
-add-read-code c = let b = c .before .before .before .before .before in
+add-n : tie.Need-add-n
+add-n c = let b = c .before .before .before .before .before in
     omega (arith, c .count-of .ensures, book-count (b .pre), b .pre .indexed .few, b .pre .few)
 
 read-code-requires : tie.Need-read-code-requires
@@ -55,8 +55,9 @@ returns-2 : tie.Need-returns-2
 unfolding reader.text
 returns-2 c = c .pass-phrase .ensures ∙ ap (endWith 0) (by-phrase _ _ _ (c .before .if1 .taken) ∙ then-got _ _ _ (field-got _ _ (code-read (c .before .before .before .before .before)) (c .before .before .before .field .given .1)))
 
-read-spelled-requires : tie.Need-read-spelled-requires
-read-spelled-requires c κs = search needs
+read-among-requires : tie.Need-read-among-requires
+read-among-requires c κs = let b = c .before .before .before .before .before .before .before .before .before .before in
+    (b .pre .short, b .pre .indexed, omega (arith, c .before .before .before .before .before .count-of .ensures))
 
 enum-known-spelled : tie.Need-enum-known-spelled
 enum-known-spelled c = search needs
@@ -67,12 +68,12 @@ enum-told-2 c = search needs
 returns-3 : tie.Need-returns-3
 unfolding reader.text
 returns-3 c = ap (fieldRead (c .before .before .before .before .before .before .before .before .before .before .before .before .before .args .plate .now)) (c .enum-told2 .given .1)
-    ∙ ap (endWith 0) (answered (sizeRead (c .before .before .before .before .before .before .before .before .before .before .before .before .before .args .plate .now) _) refusalOf (c .before .before .read-spelled .ensures) (c .enum-told2 .given .1)
+    ∙ ap (endWith 0) (answered (sizeRead (c .before .before .before .before .before .before .before .before .before .before .before .before .before .args .plate .now) _) refusalOf (c .before .before .read-among .ensures) (c .enum-told2 .given .1)
     ∙ by-spelled _ _ _ (c .before .before .before .if1 .left) ∙ then-got _ _ _ (field-got _ _ (code-read (c .before .before .before .before .before .before .before)) (c .before .before .before .before .before .field .given .1)))
 
 returns-4 : tie.Need-returns-4
 unfolding reader.text
-returns-4 c = ap (endWith 0) (size-got _ _ _ (c .before .before .before .read-spelled .ensures) (c .before .spelled .given .1)
+returns-4 c = ap (endWith 0) (size-got _ _ _ (c .before .before .before .read-among .ensures) (c .before .spelled .given .1)
     ∙ by-spelled _ _ _ (c .before .before .before .before .if1 .left) ∙ then-got _ _ _ (field-got _ _ (code-read (c .before .before .before .before .before .before .before .before)) (c .before .before .before .before .before .before .field .given .1)))
 
 pub pass-text-spec : {M : Type 1} → statement M
@@ -80,14 +81,14 @@ pass-text-spec =
     tie.close
     (tie.spec
     count-of-requires
-    add-read-code
+    add-n
     read-code-requires
     enum-known-field
     enum-told
     returns
     pass-phrase-requires
     returns-2
-    read-spelled-requires
+    read-among-requires
     enum-known-spelled
     enum-told-2
     returns-3

@@ -1,13 +1,15 @@
 // Numbers of 0 to 32 bits or of 56 read, and of 0 to 56 bits written, in a byte buffer, at any bit of it, highest bit first.
+// Several short numbers, one behind the other, are parts of 25 bits that are read ahead once.
 // Reading finds the number, or that the buffer ends inside it. Writing stores each bit that has room, changes no other bit, and
 // returns the place behind the bits, with room or without: a first pass over no buffer at all counts the bits of the whole.
 // specs/Bits.antt says what the bits of numbers and of bytes are, and how they are filled up to whole bytes.
 ghost use mathlib.Core.Path.{_≡_};
 ghost use Prim.Native.Nat.{_+_, _-_, _*_, _/_, _%_, _^_, _≤_, _<_, min};
-ghost use lib.ListN.{length, take, drop};
+ghost use lib.ListN.{length, take, drop, getD};
 ghost use Rattle.output.specs.Pour.{pour, poured};
 ghost use Rattle.bits.specs.Bits.{bitsOf, valueOf, bytesBits};
 ghost use Rattle.bits.specs.Number.{numberIn, wideIn};
+ghost use Rattle.bits.specs.Ahead.{fourFrom, aheadIn, partAhead};
 
 // What reading a number finds: the number, or that the plate ends inside it.
 pub enum Number {
@@ -115,6 +117,66 @@ fn read_bytes(bytes: &[u8], at: usize, width: usize) -> Number
         left -= size;
     }
     Number::Is(value as u32)
+}
+
+// A byte, or 0 behind the last one.
+fn byte_at(bytes: &[u8], index: usize) -> usize
+    ensures { λ r. ⌜ (r ≡ getD (now (bytes .entry)) index 0) × (r < 256) ⌝ }
+{
+    if index < bytes.len() {
+        return bytes[index] as usize;
+    }
+    0
+}
+
+// The number that four bytes are, from a byte on, zeros behind the last one.
+fn last_bytes(bytes: &[u8], index: usize) -> usize
+    requires { ⌜ index + 3 < 18446744073709551616 ⌝ }
+    ensures { λ r. ⌜ r ≡ valueOf (bytesBits (fourFrom (now (bytes .entry)) index)) ⌝ }
+{
+    let three = (byte_at(bytes, index) * 256 + byte_at(bytes, index + 1)) * 256
+        + byte_at(bytes, index + 2);
+    three * 256 + byte_at(bytes, index + 3)
+}
+
+// The 25 bits from the bit `at` on, zeros behind the last byte, as a number.
+pub fn read_ahead(bytes: &[u8], at: usize) -> usize
+    ensures { λ r. ⌜ r ≡ aheadIn (now (bytes .entry)) at ⌝ }
+{
+    let index = at / 8;
+    if index + 3 < bytes.len() {
+        return half_word(bytes, index) / two_to(7 - at % 8) % 33554432;
+    }
+    last_bytes(bytes, index) / two_to(7 - at % 8) % 33554432
+}
+
+// The number that `width` of 25 bits are, behind the first k.
+pub fn part_ahead(ahead: usize, k: usize, width: usize) -> usize
+    requires { ⌜ k + width ≤ 25 ⌝ }
+    ensures { λ r. ⌜ (r ≡ partAhead k width ahead) × (r < 33554432) ⌝ }
+{
+    ahead / two_to(25 - k - width) % two_to(width)
+}
+
+// How many of so many bits are left from a bit on.
+fn left_of(bits: usize, at: usize) -> usize
+    ensures { λ r. ⌜ r ≡ bits - at ⌝ }
+{
+    if at < bits {
+        return bits - at;
+    }
+    0
+}
+
+// The number that `width` bits of the bytes are, k bits behind the bit `at`, whose 25 bits were read ahead.
+pub fn number_ahead(bytes: &[u8], ahead: usize, at: usize, k: usize, width: usize) -> Number
+    requires { ⌜ (ahead ≡ aheadIn (now bytes) at) × (k + width ≤ 25) × (at + k < 18446744073709551616) × (length (now bytes) < 1152921504606846976) ⌝ }
+    ensures { λ r. ⌜ r ≡ numberIn width (drop (at + k) (bytesBits (now (bytes .entry)))) ⌝ }
+{
+    if left_of(bytes.len() * 8, at + k) < width {
+        return Number::Ends;
+    }
+    Number::Is(part_ahead(ahead, k, width) as u32)
 }
 
 // A byte with the lowest `size` bits of a number in place of its own, from the bit `bit` on.

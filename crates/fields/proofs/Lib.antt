@@ -1,4 +1,5 @@
 pub mod Onward
+pub mod Ahead
 pub mod Behind
 pub mod Characters
 pub mod Copies

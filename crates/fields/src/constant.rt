@@ -16,7 +16,7 @@ use causes::Cause;
 use causes::Refusal;
 
 // The number whose two's complement is the value, where half of all values are not below 0.
-fn signed(value: usize, half: usize) -> i32
+pub fn signed(value: usize, half: usize) -> i32
     requires { ⌜ (value < half + half) × (half ≤ 2147483648) ⌝ }
     ensures { λ r. ⌜ r ≡ cond (ltb value half) (pos value) (negsuc (half + half - 1 - value)) ⌝ }
 {

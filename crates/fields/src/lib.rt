@@ -11,12 +11,16 @@ mod tests;
 
 use causes::Refusal;
 pub use constant::read_constant;
+pub use constant::signed;
 pub use copying::copy_characters;
 pub use copying::copy_each;
+pub use numbers::plain_ahead;
 pub use numbers::read_field;
 pub use numbers::read_plain;
 pub use numbers::read_skip;
+pub use spelling::last_size;
 pub use spelling::read_size;
+pub use tests::op_of;
 pub use tests::read_test;
 use transcript::Test;
 

@@ -1,8 +1,9 @@
 // Numbers of a plate: read, judged, and refused at their first bit.
 ghost use mathlib.Core.Path.{_≡_};
-ghost use Prim.Native.Nat.{_≤_};
+ghost use Prim.Native.Nat.{_+_, _≤_, _<_};
 ghost use lib.ListN.{length};
 ghost use lib.Dec.{leb};
+ghost use Rattle.bits.specs.Ahead.{aheadIn};
 ghost use Rattle.plate.specs.Reading.{number, judged};
 ghost use Rattle.plate.specs.Plate as reader;
 ghost use Rattle.fields.specs.Places.{placeAt, fieldRead};
@@ -23,6 +24,21 @@ pub fn read_plain(plate: &[u8], at: usize, width: usize) -> Field
         });
     };
     Field::Is(value as usize, at + width)
+}
+
+// The same of a number that begins k bits behind a bit whose 25 bits were read ahead.
+pub fn plain_ahead(plate: &[u8], ahead: usize, at: usize, k: usize, width: usize) -> Field
+    requires { ⌜ (ahead ≡ aheadIn (now plate) at) × (k + width ≤ 25) × (at + k < 18446744073709551616) × (length (now plate) ≤ 2953) ⌝ }
+    ensures { λ r. ⌜ fieldRead (now (plate .entry)) r ≡ number width (placeAt (now (plate .entry)) (at + k)) ⌝ }
+{
+    let place = at + k;
+    let Number::Is(value) = bits::number_ahead(plate, ahead, at, k, width) else {
+        return Field::Refused(Refusal {
+            cause: Cause::PlateEnds,
+            place,
+        });
+    };
+    Field::Is(value as usize, place + width)
 }
 
 // A number of so many bits; the cause where it is over the most.

@@ -56,7 +56,7 @@ fn read_character(plate: &[u8], at: usize) -> Field
 }
 
 // How many characters stand before ETX, and the bit behind it: one by one.
-fn last_size(plate: &[u8], at: usize) -> Field
+pub fn last_size(plate: &[u8], at: usize) -> Field
     requires { ⌜ length (now plate) ≤ 2953 ⌝ }
     ensures { λ r. ⌜ sizeRead (now (plate .entry)) at r ≡ untilETX (placeAt (now (plate .entry)) at) ⌝ }
 {

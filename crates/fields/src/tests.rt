@@ -15,7 +15,7 @@ use transcript::Op;
 use transcript::Test;
 
 // eq 0 to ge 5.
-fn op_of(code: usize) -> Op
+pub fn op_of(code: usize) -> Op
     ensures { λ r. ⌜ r ≡ opOf code ⌝ }
 {
     match code {

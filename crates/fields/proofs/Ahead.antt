@@ -1,0 +1,38 @@
+-- A number that is known to stand behind a bit whose 25 bits were read ahead: a part of these.
+use Prim.Native.Nat.{ℕ, _+_, _-_, _*_, _≤_}
+use mathlib.Core.Path.{_≡_, refl, sym, ap, _∙_}
+use mathlib.Core.List.{List}
+use mathlib.Core.Bool.{Bool, true, false}
+use native.Mathlib.Omega.{arith}
+use lib.ListN.{length, drop, length-drop}
+use lib.Dec.{leb}
+use borrow.Author.Tests.{leb-true}
+use Rattle.causes.specs.declared.Cause.the-variants.{PlateEnds}
+use Rattle.bits.specs.Bits.{bytesBits}
+use Rattle.bits.specs.Ahead.{aheadIn, partAhead}
+use Rattle.bits.specs.declared.Number.the-variants.{Is}
+use Rattle.bits.proofs.Bytes.{length-bytesBits}
+use Rattle.bits.proofs.Reading.{number-in}
+use Rattle.bits.proofs.Ahead.{part-value}
+use Rattle.plate.specs.Reading.{got, number}
+use Rattle.fields.specs.Places.{placeAt, Known}
+use Rattle.fields.proofs.Onward.{number-there}
+
+-- a number that is known has all its bits
+pub known-room : (plate : List ℕ) (at w : ℕ) → Known (number w (placeAt plate at)) → w ≤ length plate * 8 - at
+unfolding placeAt number
+known-room plate at w known = go (leb w (length (drop at (bytesBits plate)))) refl
+  where
+    go : (v : Bool) → leb w (length (drop at (bytesBits plate))) ≡ v → w ≤ length plate * 8 - at
+    go true e = omega (arith, leb-true w (length (drop at (bytesBits plate))) e, length-drop at (bytesBits plate), length-bytesBits plate)
+    go false e = absurd (known .good {cause = PlateEnds} {bit = at} (rw e refl))
+
+-- it is the part of what was read ahead, k bits behind its first
+pub known-part : (plate : List ℕ) (ahead at k w : ℕ) → ahead ≡ aheadIn plate at → k + w ≤ 25 → Known (number w (placeAt plate (at + k)))
+    → number w (placeAt plate (at + k)) ≡ got (partAhead k w ahead) (placeAt plate (at + k + w))
+known-part plate ahead at k w e few known =
+    let room = known-room plate (at + k) w known in
+    let bits = drop (at + k) (bytesBits plate) in
+    let enough : w ≤ length bits = omega (arith, room, length-drop (at + k) (bytesBits plate), length-bytesBits plate) in
+    let value = ap (partAhead k w) e ∙ part-value plate at k w few room in
+    sym (number-there plate (at + k) w (partAhead k w ahead) (number-in w bits enough ∙ ap Is (sym value)))

@@ -1,5 +1,5 @@
 -- An instruction by its head: which of its texts are known to be good, what it is, and where it ends.
-use Prim.Native.Nat.{ℕ}
+use Prim.Native.Nat.{ℕ, _+_}
 use mathlib.Core.Path.{_≡_, refl, sym, ap, _∙_}
 use mathlib.Core.List.{List}
 use Rattle.text.specs.Text.{Text}
@@ -8,7 +8,7 @@ use Rattle.transcript.specs.Statement.{input, inputs, print, printex}
 use Rattle.phrases.specs.Phrases.{Phrases}
 use Rattle.plate.specs.Program.{Instruction, statement, goto, ifSkip}
 use Rattle.plate.specs.Reading.{Place, Read, got, stopped, return}
-use Rattle.plate.specs.Plate.{text, options}
+use Rattle.plate.specs.Plate.{text, options, fieldsBy}
 use Rattle.fields.specs.Places.{placeAt, endWith, valuesOf, Known}
 use Rattle.fields.proofs.Onward.{then-got}
 use Rattle.plate_texts.proofs.Known.{known-same, known-first, known-then}
@@ -73,19 +73,22 @@ module _ (plate : List ℕ) (c : Phrases) (h : Head) {m : Read Instruction} (e :
   unfolding headed
   goto-read s = as-headed s
 
-  pub if-read : {t : Test} {k next : ℕ} → h ≡ IfSkip t k next → got (ifSkip t k) (placeAt plate next) ≡ m
-  unfolding headed
-  if-read s = as-headed s
-
   pub goto-is : {k next : ℕ} → h ≡ Goto k next → instructionOf m ≡ goto k
   goto-is s = sym (ap instructionOf (goto-read s))
 
-  pub if-is : {t : Test} {k next : ℕ} → h ≡ IfSkip t k next → instructionOf m ≡ ifSkip t k
-  if-is s = sym (ap instructionOf (if-read s))
-
-  -- ---- of an instruction that is known to be good, the texts are too, and they are its texts
+  -- ---- of an instruction that is known to be good, the texts and the fields of an if are too, and they are its own
 
   module _ (w : Known m) where
+    module _ {bit ahead : ℕ} (next : ℕ) {t : Test} {k : ℕ} (s : h ≡ IfSkip bit ahead)
+        (f : (c : Phrases) (behind : ℕ) → Known (fieldsBy c behind 5 (placeAt plate (bit + 3)))
+        → got (ifSkip t k) (placeAt plate next) ≡ fieldsBy c behind 5 (placeAt plate (bit + 3))) where
+      pub if-read : got (ifSkip t k) (placeAt plate next) ≡ m
+      unfolding headed
+      if-read = f c 511 (known-same (as-headed s) w) ∙ as-headed s
+
+      pub if-is : instructionOf m ≡ ifSkip t k
+      if-is = sym (ap instructionOf if-read)
+
     pub input-text : {r bit : ℕ} → h ≡ Input r bit → Known (text c (placeAt plate bit))
     unfolding headed
     input-text s = known-first _ _ _ (known-same (as-headed s) w)

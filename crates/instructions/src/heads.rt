@@ -1,127 +1,135 @@
 // The head of an instruction of a plate that was read before: what stands in front of its texts. Nothing is judged again.
 ghost use mathlib.Core.Path.{_≡_};
-ghost use Prim.Native.Nat.{ℕ, _≤_};
+ghost use Prim.Native.Nat.{ℕ, _+_, _≤_, _<_};
 ghost use lib.ListN.{length};
+ghost use Rattle.bits.specs.Ahead.{aheadIn};
 ghost use Rattle.phrases.specs.Phrases.{Phrases};
 ghost use Rattle.phrases.specs.Lookup.{phrasesIn};
+ghost use Rattle.plate.specs.Program.{ifSkip};
 ghost use Rattle.plate.specs.Reading.{got};
 ghost use Rattle.plate.specs.Plate.{fieldsBy, instruction};
 ghost use Rattle.fields.specs.Places.{placeAt, endWith, Known};
 ghost use Rattle.plate_texts.specs.TextsAt.{Lent};
 ghost use Rattle.instructions.specs.Heads.{headed, HeadFits};
 use crate::Head;
+use crate::IfRead;
 use fields::Field;
 use fields::TestRead;
+use fields::op_of;
 use fields::read_plain;
 use fields::read_test;
-use plate_texts::options_end;
-use plate_texts::text_end;
+use fields::signed;
+use plate_texts::copy_options;
+use plate_texts::copy_text;
+use transcript::Op;
+use transcript::Test;
 
-// input: register, and the text behind it.
-fn input_head(plate: &[u8], at: usize) -> Head
+// An if with a constant of 32 bits. Never refused: it was read before.
+fn long_if(plate: &[u8], at: usize) -> IfRead
     requires { ⌜ length (now plate) ≤ 2953 ⌝ }
-    ensures { λ r. ⌜ ((c : Phrases) (behind : ℕ) → Known (fieldsBy c behind 0 (placeAt (now (plate .entry)) at)) → headed (now (plate .entry)) c r ≡ fieldsBy c behind 0 (placeAt (now (plate .entry)) at)) ⌝ }
-    ensures { λ r. ⌜ HeadFits r ⌝ }
-{
-    let first = read_plain(plate, at, 5);
-    let Field::Is(register, text) = first else {
-        return Head::Goto { skip: 0, next: at };
-    };
-    Head::Input { register, text }
-}
-
-// inputs: register, and the texts behind it.
-fn inputs_head(plate: &[u8], at: usize) -> Head
-    requires { ⌜ length (now plate) ≤ 2953 ⌝ }
-    ensures { λ r. ⌜ ((c : Phrases) (behind : ℕ) → Known (fieldsBy c behind 1 (placeAt (now (plate .entry)) at)) → headed (now (plate .entry)) c r ≡ fieldsBy c behind 1 (placeAt (now (plate .entry)) at)) ⌝ }
-    ensures { λ r. ⌜ HeadFits r ⌝ }
-{
-    let first = read_plain(plate, at, 5);
-    let Field::Is(register, text) = first else {
-        return Head::Goto { skip: 0, next: at };
-    };
-    Head::Inputs { register, text }
-}
-
-// goto: skip.
-fn goto_head(plate: &[u8], at: usize) -> Head
-    requires { ⌜ length (now plate) ≤ 2953 ⌝ }
-    ensures { λ r. ⌜ ((c : Phrases) (behind : ℕ) → Known (fieldsBy c behind 4 (placeAt (now (plate .entry)) at)) → headed (now (plate .entry)) c r ≡ fieldsBy c behind 4 (placeAt (now (plate .entry)) at)) ⌝ }
-    ensures { λ r. ⌜ HeadFits r ⌝ }
-{
-    let first = read_plain(plate, at, 9);
-    let Field::Is(skip, next) = first else {
-        return Head::Goto { skip: 0, next: at };
-    };
-    Head::Goto { skip, next }
-}
-
-// if: register, OP, constant, skip.
-fn if_head(plate: &[u8], at: usize) -> Head
-    requires { ⌜ length (now plate) ≤ 2953 ⌝ }
-    ensures { λ r. ⌜ ((c : Phrases) (behind : ℕ) → Known (fieldsBy c behind 5 (placeAt (now (plate .entry)) at)) → headed (now (plate .entry)) c r ≡ fieldsBy c behind 5 (placeAt (now (plate .entry)) at)) ⌝ }
-    ensures { λ r. ⌜ HeadFits r ⌝ }
+    ensures { λ r. ⌜ ((c : Phrases) (behind : ℕ) → Known (fieldsBy c behind 5 (placeAt (now (plate .entry)) at)) → got (ifSkip (r .test) (r .skip)) (placeAt (now (plate .entry)) (r .next)) ≡ fieldsBy c behind 5 (placeAt (now (plate .entry)) at)) ⌝ }
+    ensures { λ r. ⌜ (r .test .register < 32) × (r .skip < 512) ⌝ }
 {
     let first = read_test(plate, at);
     let TestRead::Is(test, skip_at) = first else {
-        return Head::Goto { skip: 0, next: at };
+        let test = Test {
+            register: 0,
+            op: Op::Eq,
+            constant: 0,
+        };
+        return IfRead {
+            test,
+            skip: 0,
+            next: at,
+        };
     };
     let second = read_plain(plate, skip_at, 9);
     let Field::Is(skip, next) = second else {
-        return Head::Goto { skip: 0, next: at };
+        return IfRead {
+            test,
+            skip: 0,
+            next: at,
+        };
     };
-    Head::IfSkip { test, skip, next }
+    IfRead { test, skip, next }
 }
 
-// The head of an instruction: its code, and the fields in front of its texts.
-pub fn accepted_head(plate: &[u8], at: usize) -> Head
-    requires { ⌜ length (now plate) ≤ 2953 ⌝ }
-    ensures { λ r. ⌜ ((c : Phrases) (behind : ℕ) → Known (instruction c behind (placeAt (now (plate .entry)) at)) → headed (now (plate .entry)) c r ≡ instruction c behind (placeAt (now (plate .entry)) at)) ⌝ }
-    ensures { λ r. ⌜ HeadFits r ⌝ }
+// An if that was read before, at its bit, with the 25 bits that were read ahead there: its register, OP and the code of its constant lie in
+// these. A short constant and the skip are 25 bits more.
+pub fn accepted_if(plate: &[u8], at: usize, ahead: usize) -> IfRead
+    requires { ⌜ (length (now plate) ≤ 2953) × (at ≤ 23624) × (ahead ≡ aheadIn (now plate) at) ⌝ }
+    ensures { λ r. ⌜ ((c : Phrases) (behind : ℕ) → Known (fieldsBy c behind 5 (placeAt (now (plate .entry)) (at + 3))) → got (ifSkip (r .test) (r .skip)) (placeAt (now (plate .entry)) (r .next)) ≡ fieldsBy c behind 5 (placeAt (now (plate .entry)) (at + 3))) ⌝ }
+    ensures { λ r. ⌜ (r .test .register < 32) × (r .skip < 512) ⌝ }
 {
-    let field = read_plain(plate, at, 3);
-    let Field::Is(code, next) = field else {
-        return Head::Goto { skip: 0, next: at };
-    };
-    // Most instructions are prints.
-    if code == 2 {
-        return Head::Print { text: next };
+    if bits::part_ahead(ahead, 11, 2) != 0 {
+        return long_if(plate, at + 3);
     }
-    match code {
-        0 => input_head(plate, next),
-        1 => inputs_head(plate, next),
-        3 => Head::Printex { text: next },
-        4 => goto_head(plate, next),
-        _ => if_head(plate, next),
+    let register = bits::part_ahead(ahead, 3, 5);
+    let op = op_of(bits::part_ahead(ahead, 8, 3));
+    let behind = bits::read_ahead(plate, at + 13);
+    let constant = signed(bits::part_ahead(behind, 0, 16), 32768);
+    let test = Test {
+        register,
+        op,
+        constant,
+    };
+    IfRead {
+        test,
+        skip: bits::part_ahead(behind, 16, 9),
+        next: at + 38,
+    }
+}
+
+// The head of an instruction: its code, and the fields in front of its texts, but those of an if.
+pub fn accepted_head(plate: &[u8], at: usize) -> Head
+    requires { ⌜ (length (now plate) ≤ 2953) × (at ≤ 23624) ⌝ }
+    ensures { λ r. ⌜ ((c : Phrases) (behind : ℕ) → Known (instruction c behind (placeAt (now (plate .entry)) at)) → headed (now (plate .entry)) c r ≡ instruction c behind (placeAt (now (plate .entry)) at)) ⌝ }
+    ensures { λ r. ⌜ HeadFits (now (plate .entry)) r ⌝ }
+{
+    let ahead = bits::read_ahead(plate, at);
+    match bits::part_ahead(ahead, 0, 3) {
+        0 => Head::Input {
+            register: bits::part_ahead(ahead, 3, 5),
+            text: at + 8,
+        },
+        1 => Head::Inputs {
+            register: bits::part_ahead(ahead, 3, 5),
+            text: at + 8,
+        },
+        2 => Head::Print { text: at + 3 },
+        3 => Head::Printex { text: at + 3 },
+        4 => Head::Goto {
+            skip: bits::part_ahead(ahead, 3, 9),
+            next: at + 12,
+        },
+        _ => Head::IfSkip { bit: at, ahead },
     }
 }
 
 // The bit behind an instruction that was read before.
-pub fn accepted_end(
+pub fn accepted_end<'a>(
     plate: &[u8],
     at: usize,
     behind: usize,
-    index: &[u32],
-    book: &[u8],
-    own: &[u8],
+    index: &'a [u32],
+    book: &'a [u8],
+    own: &'a [u8],
     count: usize,
 ) -> usize
     requires { ⌜ Lent (now plate) (now index) (now book) (now own) count × Known (instruction (phrasesIn (now book) (now own) count) behind (placeAt (now plate) at)) ⌝ }
     ensures { λ r. ⌜ got 0 (placeAt (now (plate .entry)) r) ≡ endWith 0 (instruction (phrasesIn (now (book .entry)) (now (own .entry)) count) behind (placeAt (now (plate .entry)) at)) ⌝ }
 {
     match accepted_head(plate, at) {
-        Head::Input { register: _, text } => text_end(plate, text, index, book, own, count),
-        Head::Inputs { register: _, text } => {
-            let options = text_end(plate, text, index, book, own, count);
-            options_end(plate, options, index, book, own, count)
+        Head::Input { register: _, text } => {
+            copy_text(plate, text, index, book, own, count, &mut [], 0).next
         }
-        Head::Print { text } => text_end(plate, text, index, book, own, count),
-        Head::Printex { text } => text_end(plate, text, index, book, own, count),
+        Head::Inputs { register: _, text } => {
+            let options = copy_text(plate, text, index, book, own, count, &mut [], 0).next;
+            copy_options(plate, options, index, book, own, count, &mut [], 0).next
+        }
+        Head::Print { text } => copy_text(plate, text, index, book, own, count, &mut [], 0).next,
+        Head::Printex { text } => copy_text(plate, text, index, book, own, count, &mut [], 0).next,
         Head::Goto { skip: _, next } => next,
-        Head::IfSkip {
-            test: _,
-            skip: _,
-            next,
-        } => next,
+        Head::IfSkip { bit, ahead } => accepted_if(plate, bit, ahead).next,
     }
 }

@@ -1,14 +1,12 @@
 -- The line of an instruction that is read by its head.
 use Prim.Native.Nat.{ℕ}
-use mathlib.Core.Path.{_≡_, refl, sym, ap, _∙_}
+use mathlib.Core.Path.{_≡_, sym, ap, _∙_}
 use mathlib.Core.List.{List, [], _∷_}
 use Rattle.output.specs.Pour.{poured}
-use Rattle.text.specs.Text.{Text}
 use Rattle.phrases.specs.Phrases.{Phrases}
 use Rattle.plate.specs.Program.{Instruction}
-use Rattle.plate.specs.Reading.{Place, Read, got, stopped}
-use Rattle.plate.specs.Plate.{options}
-use Rattle.fields.specs.Places.{endWith, countRead, Known}
+use Rattle.plate.specs.Reading.{Place, Read, got}
+use Rattle.fields.specs.Places.{endWith, Known}
 use Rattle.plate_texts.proofs.Known.{known-same}
 use Rattle.instructions.specs.declared.Head.{Head}
 use Rattle.instructions.specs.Heads.{headed, instructionOf}
@@ -18,14 +16,6 @@ use Rattle.listing.specs.Listing.{instructionFields, linesText}
 pub line-is : (old : List ℕ) {i j : Instruction} {r : ℕ × List ℕ} → j ≡ i → r ≡ poured 0 (linesText (instructionFields i ∷ [])) old
     → r ≡ poured 0 (linesText (instructionFields j ∷ [])) old
 line-is old h e = e ∙ ap (λ i. poured 0 (linesText (instructionFields i ∷ [])) old) (sym h)
-
--- options that were counted end where they end
-pub options-end : (c : Phrases) (q : Place) {k : ℕ} {s : Place} → got k s ≡ countRead (options c q) → got 0 s ≡ endWith 0 (options c q)
-options-end c q e = ap (endWith 0) e ∙ go (options c q)
-  where
-    go : (m : Read (List Text)) → endWith 0 (countRead m) ≡ endWith 0 m
-    go (got os u) = refl
-    go (stopped cause bit) = refl
 
 -- m is the instruction that the head h begins, and h is this one
 module _ (plate : List ℕ) (c : Phrases) {h k : Head} {m : Read Instruction} (e : headed plate c h ≡ m) (s : h ≡ k) where

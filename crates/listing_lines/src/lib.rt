@@ -24,6 +24,7 @@ use crate::field::put_operator;
 use fields::Copied;
 use instructions::Head;
 use instructions::accepted_head;
+use instructions::accepted_if;
 use plate_texts::copy_options;
 use plate_texts::copy_text;
 use transcript::Test;
@@ -229,9 +230,12 @@ pub fn put_instruction<'a>(
             end: put_goto(skip, tail),
             next,
         },
-        Head::IfSkip { test, skip, next } => Copied {
-            end: put_if(test, skip, tail),
-            next,
-        },
+        Head::IfSkip { bit, ahead } => {
+            let read = accepted_if(plate, bit, ahead);
+            Copied {
+                end: put_if(read.test, read.skip, tail),
+                next: read.next,
+            }
+        }
     }
 }

@@ -4,7 +4,7 @@
 // `check_book` takes any bytes, and 385 numbers for the index that it makes (specs/Index.antt); the lookups take that index, so that a text is
 // compared with few others.
 // Each contract says the whole answer by a definition of specs/. `width_of` takes at most 65,536 phrases.
-// `phrase_text` returns a part of the book or of the own phrases, never a copy.
+// `phrase_text` returns a part of the book or of the own phrases, never a copy; it takes a place of the book only where it has a phrase.
 mod check;
 mod index;
 mod lookup;

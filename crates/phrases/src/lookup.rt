@@ -1,8 +1,11 @@
 // Where a text is a phrase: among the lines of the book, then among the own phrases; and the text of a phrase by its place.
 ghost use mathlib.Core.Path.{_≡_};
+ghost use mathlib.Core.Bool.{false};
+ghost use Prim.Native.Nat.{_<_};
+ghost use lib.ListN.{length};
 ghost use Rattle.phrases.specs.Phrases as phrases;
 ghost use Rattle.text.specs.Parts.{same};
-ghost use Rattle.phrases.specs.Lookup.{phraseText, ownTexts, phrasesIn, phraseIn, placeAnswer, foundAnswer};
+ghost use Rattle.phrases.specs.Lookup.{bookTexts, phraseText, ownTexts, phrasesIn, phraseIn, placeAnswer, foundAnswer};
 ghost use Rattle.phrases.specs.Index.{Indexed};
 use crate::Found;
 use crate::index::Place;
@@ -77,14 +80,11 @@ pub fn phrase_text<'a>(
     is_own: bool,
     i: usize,
 ) -> &'a [u8]
-    requires { ⌜ Indexed (now index) (now book) ⌝ }
+    requires { ⌜ Indexed (now index) (now book) × («is_own» ≡ false → i < length (bookTexts (now book))) ⌝ }
     ensures { λ r. ⌜ now r ≡ phraseIn (now (book .entry)) (now (own .entry)) «is_own» i ⌝ }
 {
     if is_own {
         return text::part(text::part(own, b'\n', i), b',', 1);
     }
-    if i < count_of(index) {
-        return text_of(index, book, i);
-    }
-    text::part(book, b'\n', i)
+    text_of(index, book, i)
 }

@@ -1,5 +1,7 @@
 pub mod Known
 pub mod Ended
+pub mod Behind
+pub mod Spelled
 pub mod SourceRead
 pub mod PhraseRead
 pub mod CopiedTexts

@@ -1,13 +1,17 @@
 -- Where a phrase is looked up, as the code reads it: in the book, or among the own phrases.
 use Prim.Native.Nat.{ℕ, zero, suc, _+_, _≤_, _<_}
-use mathlib.Core.Path.{_≡_, refl, sym, subst}
+use mathlib.Core.Path.{_≡_, refl, sym, ap, subst}
 use mathlib.Core.List.{List, [], _∷_}
 use mathlib.Core.Bool.{Bool, true, false, cond}
 use native.Mathlib.Omega.{arith}
-use lib.ListN.{length}
+use lib.ListN.{length, take, drop}
+use lib.Dec.{leb}
+use Rattle.causes.specs.declared.Cause.the-variants.{PlateEnds}
+use Rattle.bits.specs.Bits.{valueOf}
 use Rattle.text.specs.Text.{Text}
 use Rattle.plate.specs.Reading.{Place, Read, got, stopped, number, return, onward, _>>=_}
 use Rattle.plate.specs.Plate.{phraseAt, phraseBy, phrase}
+use Rattle.fields.specs.Places.{placeAt}
 use Rattle.plate_texts.specs.Sources.{sourceBy, source}
 
 -- ---- what is read
@@ -39,6 +43,30 @@ pub bit-own : (texts count : ℕ) (q : Place) (b : ℕ) → (b ≡ 0 → ⊥) �
 unfolding return
 bit-own texts count q zero h = absurd (h refl)
 bit-own texts count q (suc b) h = refl
+
+-- where a reading ends; a refusal ends nowhere
+abbrev endAt : {A : Type 0} → Read A → ℕ
+endAt (got a q) = q .at
+endAt (stopped cause bit) = 0
+
+near : (texts count : ℕ) (p : Place) → endAt (source texts count p) ≤ p .at + 1
+unfolding source return number _>>=_
+near zero count p = omega arith
+near (suc n) zero p = omega arith
+near (suc n) (suc k) p = go (leb 1 (length (p .left)))
+  where
+    go : (b : Bool)
+        → endAt (onward (cond b (got (valueOf (take 1 (p .left))) (record { left = drop 1 (p .left); at = p .at + 1 })) (stopped PlateEnds (p .at)))
+        (λ b. return (sourceBy (suc n) (suc k) b)))
+        ≤ p .at + 1
+    go true = omega arith
+    go false = omega arith
+
+-- the place of a phrase stands at most one bit behind its source
+pub source-near : (texts count : ℕ) (plate : List ℕ) (at k : ℕ) (s : Bool × ℕ)
+    → got s (placeAt plate (at + k)) ≡ source texts count (placeAt plate (at + 2)) → k ≤ 3
+unfolding placeAt
+source-near texts count plate at k s e = omega (arith, ap endAt e, near texts count (placeAt plate (at + 2)))
 
 -- ---- a phrase by its source
 

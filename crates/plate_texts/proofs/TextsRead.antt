@@ -1,24 +1,23 @@
 -- Texts as the code reads them: the code, and one text behind the other.
-use Prim.Native.Nat.{ℕ, zero, suc, _+_, _-_, _<_}
+use Prim.Native.Nat.{ℕ, zero, suc, _+_, _-_, _*_, _≤_, _<_}
 use mathlib.Core.Path.{_≡_, refl, sym, ap, _∙_}
-use mathlib.Core.List.{List, [], _∷_}
-use mathlib.Core.Bool.{true, false, _&&_, and-true, false≢true}
+use mathlib.Core.List.{List, _∷_}
+use mathlib.Core.Bool.{true, false, false≢true}
 use native.Mathlib.Numerals.{sub-one}
 use native.Mathlib.Omega.{arith}
-use lib.ListN.{length, getD}
+use lib.ListN.{length}
 use borrow.Author.Tests.{leb-true}
 use Rattle.causes.specs.declared.Cause.{Cause}
-use Rattle.causes.specs.declared.Cause.the-variants.{Unused, Spelling}
-use Rattle.text.specs.Text.{Text, textSize}
-use Rattle.phrases.specs.Phrases.{Phrases, place, find, isNew}
-use Rattle.phrases.specs.Lookup.{bookTexts, ownTexts}
-use Rattle.phrases.specs.Index.{Indexed}
-use Rattle.phrases.proofs.Entries.{indexed-count}
+use Rattle.causes.specs.declared.Cause.the-variants.{Unused}
+use Rattle.bits.specs.Ahead.{aheadIn, partAhead}
+use Rattle.phrases.specs.Phrases.{Phrases}
 use Rattle.plate.specs.Reading.{Place, Read, got, stopped, Reader, number, judged, return, onward, _>>=_, many}
 use Rattle.plate.specs.Plate.{isTextCode, textBy, text, spelled, phrase}
-use Rattle.fields.specs.Places.{placeAt, untilETX, endWith, Known}
-use Rattle.plate_texts.proofs.Known.{known-first, known-judged}
+use Rattle.fields.specs.Places.{placeAt, endWith, Known}
+use Rattle.plate_texts.proofs.Known.{known-same, known-first, known-judged}
+use Rattle.plate_texts.proofs.Behind.{number-part}
 use Rattle.plate_texts.specs.TextsAt.{codeWith}
+use Rattle.fields.proofs.Ahead.{known-room}
 use Rattle.plate.proofs.Readers.{gives-number, gives-judged}
 use Rattle.fields.proofs.Onward.{then-stopped, judged-alike, got-good}
 
@@ -45,12 +44,27 @@ some-phrase n code p q e h = go code h (got-good p (gives-judged (codeWith n) Un
     go (suc (suc (suc k))) h t = absurd (false≢true t)
 
 -- where a text is known to be good, its code need not be judged
-pub known-code : (c : Phrases) (plate : List ℕ) (at : ℕ) → Known (text c (placeAt plate at))
+known-code : (c : Phrases) (plate : List ℕ) (at : ℕ) → Known (text c (placeAt plate at))
     → number 2 (placeAt plate at) ≡ judged (number 2) (isTextCode c) Unused (placeAt plate at)
 unfolding text
 known-code c plate at w = known-judged _ _ _ plate at (known-first _ _ _ w)
 
--- and is that of a phrase only where there are some
+module _ (c : Phrases) (plate : List ℕ) (at : ℕ) (w : Known (text c (placeAt plate at))) where
+  code-known : Known (number 2 (placeAt plate at))
+  unfolding text
+  code-known = known-same (known-code c plate at w) (known-first _ _ _ w)
+
+  -- it is the part of what was read ahead
+  pub code-ahead : (ahead code : ℕ) → ahead ≡ aheadIn plate at → code ≡ partAhead 0 2 ahead
+      → got code (placeAt plate (at + 2)) ≡ judged (number 2) (isTextCode c) Unused (placeAt plate at)
+  code-ahead ahead code a e =
+      ap (λ k. got k (placeAt plate (at + 2))) e ∙ number-part plate ahead at 2 a (omega arith) code-known ∙ known-code c plate at w
+
+  -- and its bits are there
+  pub code-room : at + 2 ≤ length plate * 8
+  code-room = omega (arith, known-room plate at 2 code-known)
+
+-- it is that of a phrase only where there are some
 pub known-phrase : (c : Phrases) (plate : List ℕ) (at code : ℕ) (q : Place) → got code q ≡ judged (number 2) (isTextCode c) Unused (placeAt plate at)
     → (code ≡ 0 → ⊥) → 0 < length (c .book) + length (c .own)
 known-phrase c plate at code q e h =
@@ -69,27 +83,6 @@ unused-code n zero h g = absurd (h refl)
 unused-code n (suc zero) h g = refl
 unused-code n (suc (suc zero)) h g = absurd (g refl)
 unused-code n (suc (suc (suc k))) h g = refl
-
--- ---- a text with no phrases around
-
--- where there is no phrase, every text is new
-pub none-there : (index book own : List ℕ) (count : ℕ) (t : Text) → Indexed index book → getD index 0 0 ≡ 0 → count ≡ 0
-    → isNew (bookTexts book) (ownTexts count own) t ≡ true
-unfolding place find ownTexts
-none-there index book own count t x e z = go (bookTexts book) (omega (arith, indexed-count index book x)) count z
-  where
-    go : (ts : List Text) → length ts ≡ 0 → (k : ℕ) → k ≡ 0 → isNew ts (ownTexts k own) t ≡ true
-    go [] h zero w = refl
-    go [] h (suc k) w = absurd (omega arith)
-    go (u ∷ us) h k w = absurd (omega arith)
-
--- so that only its size is judged
-pub new-spelled : (plate index book own : List ℕ) (count at : ℕ) → Indexed index book → getD index 0 0 + count ≡ 0
-    → judged untilETX textSize Spelling (placeAt plate at) ≡ spelled (bookTexts book) (ownTexts count own) (placeAt plate at)
-unfolding spelled
-new-spelled plate index book own count at x e =
-    judged-alike untilETX _ Spelling plate at textSize
-    (λ t. sym (ap (λ v. textSize t && v) (none-there index book own count t x (omega arith) (omega arith)) ∙ and-true (textSize t)))
 
 -- ---- one behind the other
 

@@ -1,5 +1,5 @@
 -- Where a phrase of a plate is looked up: in the book, or among the own phrases.
-use Prim.Native.Nat.{ℕ, zero, suc}
+use Prim.Native.Nat.{ℕ, zero, suc, _+_}
 use mathlib.Core.List.{List}
 use mathlib.Core.Bool.{Bool, true, false}
 use Rattle.causes.specs.declared.Refusal.{Refusal}
@@ -22,12 +22,12 @@ source (suc n) (suc k) = do
   b ← number 1
   return (sourceBy (suc n) (suc k) b)
 
--- a source that the code read
-abbrev pub sourceRead : List ℕ → Source → Read (Bool × ℕ)
-sourceRead plate (Is isOwn n next) = got (isOwn, n) (placeAt plate next)
-sourceRead plate (Refused r) = stopped (r .cause) (r .place)
+-- a source that the code read, whose place stands k bits behind a bit
+abbrev pub sourceRead : List ℕ → ℕ → Source → Read (Bool × ℕ)
+sourceRead plate at (Is isOwn n k) = got (isOwn, n) (placeAt plate (at + k))
+sourceRead plate at (Refused r) = stopped (r .cause) (r .place)
 
 -- the refusal that a source is; nothing asks it of a value
 abbrev pub sourceRefusal : Source → Refusal
-sourceRefusal (Is isOwn n next) = record { cause = PlateEnds; place = next }
+sourceRefusal (Is isOwn n k) = record { cause = PlateEnds; place = k }
 sourceRefusal (Refused r) = r

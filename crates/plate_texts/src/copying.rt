@@ -6,8 +6,9 @@ use fields::Field;
 use fields::copy_characters;
 use fields::read_plain;
 ghost use mathlib.Core.Path.{_≡_};
-ghost use Prim.Native.Nat.{_+_, _<_};
-ghost use lib.ListN.{getD};
+ghost use Prim.Native.Nat.{_+_, _*_, _≤_, _<_};
+ghost use lib.ListN.{length, getD};
+ghost use Rattle.bits.specs.Ahead.{aheadIn};
 ghost use Rattle.output.specs.Pour.{poured};
 ghost use Rattle.phrases.specs.Lookup.{bookTexts, ownTexts, phrasesIn};
 ghost use Rattle.transcript.specs.Offered.{optionsBytes};
@@ -20,6 +21,7 @@ ghost use Rattle.plate_texts.specs.TextsAt.{Lent};
 // A phrase.
 fn copy_phrase<'a>(
     plate: &[u8],
+    ahead: usize,
     at: usize,
     index: &'a [u32],
     book: &'a [u8],
@@ -28,11 +30,11 @@ fn copy_phrase<'a>(
     out: &mut [u8],
     from: usize,
 ) -> Copied
-    requires { ⌜ Lent (now plate) (now index) (now book) (now own) count × (0 < getD (now index) 0 0 + count) × Known (phrase (bookTexts (now book)) (ownTexts count (now own)) (placeAt (now plate) at)) ⌝ }
-    ensures { λ r. ⌜ (r .end, now (out .exit)) ≡ poured from (valuesOf (phrase (bookTexts (now (book .entry))) (ownTexts count (now (own .entry))) (placeAt (now (plate .entry)) at))) (now (out .entry)) ⌝ }
-    ensures { λ r. ⌜ got 0 (placeAt (now (plate .entry)) (r .next)) ≡ endWith 0 (phrase (bookTexts (now (book .entry))) (ownTexts count (now (own .entry))) (placeAt (now (plate .entry)) at)) ⌝ }
+    requires { ⌜ Lent (now plate) (now index) (now book) (now own) count × (0 < getD (now index) 0 0 + count) × (ahead ≡ aheadIn (now plate) at) × (at + 2 ≤ length (now plate) * 8) × Known (phrase (bookTexts (now book)) (ownTexts count (now own)) (placeAt (now plate) (at + 2))) ⌝ }
+    ensures { λ r. ⌜ (r .end, now (out .exit)) ≡ poured from (valuesOf (phrase (bookTexts (now (book .entry))) (ownTexts count (now (own .entry))) (placeAt (now (plate .entry)) (at + 2)))) (now (out .entry)) ⌝ }
+    ensures { λ r. ⌜ got 0 (placeAt (now (plate .entry)) (r .next)) ≡ endWith 0 (phrase (bookTexts (now (book .entry))) (ownTexts count (now (own .entry))) (placeAt (now (plate .entry)) (at + 2))) ⌝ }
 {
-    let phrase = accepted_phrase(plate, at, index, book, own, count);
+    let phrase = accepted_phrase(plate, ahead, at, index, book, own, count);
     let text = phrases::phrase_text(index, book, own, phrase.own, phrase.place);
     let end = text_out::put(out, from, text);
     Copied {
@@ -56,18 +58,11 @@ pub fn copy_text<'a>(
     ensures { λ r. ⌜ (r .end, now (out .exit)) ≡ poured from (valuesOf (reader.text (phrasesIn (now (book .entry)) (now (own .entry)) count) (placeAt (now (plate .entry)) at))) (now (out .entry)) ⌝ }
     ensures { λ r. ⌜ got 0 (placeAt (now (plate .entry)) (r .next)) ≡ endWith 0 (reader.text (phrasesIn (now (book .entry)) (now (own .entry)) count) (placeAt (now (plate .entry)) at)) ⌝ }
 {
-    let field = read_plain(plate, at, 2);
-    // Never refused: the text was read before.
-    let Field::Is(code, bit) = field else {
-        return Copied {
-            end: from,
-            next: at,
-        };
-    };
-    if code != 0 {
-        return copy_phrase(plate, bit, index, book, own, count, out, from);
+    let ahead = bits::read_ahead(plate, at);
+    if bits::part_ahead(ahead, 0, 2) != 0 {
+        return copy_phrase(plate, ahead, at, index, book, own, count, out, from);
     }
-    copy_characters(plate, bit, out, from)
+    copy_characters(plate, at + 2, out, from)
 }
 
 // n texts, each behind a comma.

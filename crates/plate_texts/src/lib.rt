@@ -2,17 +2,13 @@
 // Every function takes any bits and reads from any bit on. Its contract says that its answer stands, by a map of specs/TextsAt.antt, for
 // what a reader of crate plate's specs/Plate.antt finds there.
 // Asked of a caller (`Lent`): a plate of at most 2,953 bytes, the index of the book, and own phrases that are there.
-// A text that is read first is judged, and answers its end alone; one that was read before is copied into a lent buffer, or passed over.
-mod accepted;
+// A text that is read first is judged, and answers its end alone; one that was read before is copied into a lent buffer.
 mod copying;
 mod phrase_place;
 mod refusals;
 mod spelled_text;
 mod text_at;
 
-pub use accepted::options_end;
-pub use accepted::text_end;
-pub use accepted::texts_end;
 pub use copying::copy_options;
 pub use copying::copy_text;
 pub use spelled_text::read_spelled;

@@ -1,9 +1,12 @@
 // A phrase by its place: in the book, or among the own phrases. It is judged where it is read first; where it was read before, no more.
+// The 25 bits from the code of its text on are read ahead: a phrase lies in them, behind the two bits of the code.
 ghost use mathlib.Core.Path.{_≡_};
-ghost use Prim.Native.Nat.{_+_, _≤_, _<_};
+ghost use mathlib.Core.Bool.{false};
+ghost use Prim.Native.Nat.{_+_, _*_, _≤_, _<_};
 ghost use lib.ListN.{length, getD};
 ghost use lib.Dec.{ltb};
 ghost use Rattle.causes.specs.declared.Cause.the-variants.{Unused};
+ghost use Rattle.bits.specs.Ahead.{aheadIn, partAhead};
 ghost use Rattle.phrases.specs.Phrases.{width};
 ghost use Rattle.phrases.specs.Lookup.{bookTexts, ownTexts, phraseIn};
 ghost use Rattle.plate.specs.Reading.{got, number, judged};
@@ -14,77 +17,87 @@ ghost use Rattle.plate_texts.specs.TextsAt.{Lent};
 use causes::Cause;
 use causes::Refusal;
 use fields::Field;
-use fields::read_field;
-use fields::read_plain;
+use fields::plain_ahead;
 
-// The place of a phrase among n, in the fewest bits that number them.
-fn read_place(plate: &[u8], at: usize, n: usize) -> Field
-    requires { ⌜ (length (now plate) ≤ 2953) × (0 < n) × (n ≤ 256) ⌝ }
-    ensures { λ r. ⌜ fieldRead (now (plate .entry)) r ≡ judged (number (width n)) (λ i. ltb i n) Unused (placeAt (now (plate .entry)) at) ⌝ }
+// The place of a phrase among n, in the fewest bits that number them, k bits behind the code.
+fn read_place(plate: &[u8], ahead: usize, at: usize, k: usize, n: usize) -> Field
+    requires { ⌜ (length (now plate) ≤ 2953) × (ahead ≡ aheadIn (now plate) at) × (at + k < 18446744073709551616) × (k ≤ 3) × (n ≤ 256) ⌝ }
+    ensures { λ r. ⌜ fieldRead (now (plate .entry)) r ≡ judged (number (width n)) (λ i. ltb i n) Unused (placeAt (now (plate .entry)) (at + k)) ⌝ }
 {
-    read_field(plate, at, phrases::width_of(n), n - 1, Cause::Unused)
+    let field = plain_ahead(plate, ahead, at, k, phrases::width_of(n));
+    let Field::Is(place, next) = field else {
+        return field;
+    };
+    if place < n {
+        return Field::Is(place, next);
+    }
+    Field::Refused(Refusal {
+        cause: Cause::Unused,
+        place: at + k,
+    })
 }
 
-// Which phrases a place is among: the book's or the own ones, how many they are, and the bit where the place stands.
+// Which phrases a place is among: the book's or the own ones, how many they are, and the bits from the code to the place.
 pub enum Source {
-    Is { own: bool, n: usize, next: usize },
+    Is { own: bool, n: usize, k: usize },
     Refused(Refusal),
 }
 
 // The source of a phrase: one bit for book or own, where both have phrases.
-fn read_source(plate: &[u8], at: usize, texts: usize, count: usize) -> Source
-    requires { ⌜ length (now plate) ≤ 2953 ⌝ }
-    ensures { λ r. ⌜ sourceRead (now (plate .entry)) r ≡ source texts count (placeAt (now (plate .entry)) at) ⌝ }
+fn read_source(plate: &[u8], ahead: usize, at: usize, texts: usize, count: usize) -> Source
+    requires { ⌜ (length (now plate) ≤ 2953) × (ahead ≡ aheadIn (now plate) at) × (at + 2 < 18446744073709551616) ⌝ }
+    ensures { λ r. ⌜ sourceRead (now (plate .entry)) at r ≡ source texts count (placeAt (now (plate .entry)) (at + 2)) ⌝ }
 {
     if texts == 0 {
         return Source::Is {
             own: true,
             n: count,
-            next: at,
+            k: 2,
         };
     }
     if count == 0 {
         return Source::Is {
             own: false,
             n: texts,
-            next: at,
+            k: 2,
         };
     }
-    let field = read_plain(plate, at, 1);
-    let Field::Is(bit, next) = field else {
+    let field = plain_ahead(plate, ahead, at, 2, 1);
+    let Field::Is(bit, _) = field else {
         return Source::Refused(field.refusal());
     };
     if bit == 0 {
         return Source::Is {
             own: false,
             n: texts,
-            next,
+            k: 3,
         };
     }
     Source::Is {
         own: true,
         n: count,
-        next,
+        k: 3,
     }
 }
 
 // The bit behind a phrase: its source, and its place there, which is judged.
 pub fn pass_phrase(
     plate: &[u8],
+    ahead: usize,
     at: usize,
     index: &[u32],
     book: &[u8],
     own: &[u8],
     count: usize,
 ) -> Field
-    requires { ⌜ Lent (now plate) (now index) (now book) (now own) count × (0 < getD (now index) 0 0 + count) ⌝ }
-    ensures { λ r. ⌜ fieldRead (now (plate .entry)) r ≡ endWith 0 (phrase (bookTexts (now (book .entry))) (ownTexts count (now (own .entry))) (placeAt (now (plate .entry)) at)) ⌝ }
+    requires { ⌜ Lent (now plate) (now index) (now book) (now own) count × (0 < getD (now index) 0 0 + count) × (ahead ≡ aheadIn (now plate) at) × (at + 2 ≤ length (now plate) * 8) ⌝ }
+    ensures { λ r. ⌜ fieldRead (now (plate .entry)) r ≡ endWith 0 (phrase (bookTexts (now (book .entry))) (ownTexts count (now (own .entry))) (placeAt (now (plate .entry)) (at + 2))) ⌝ }
 {
-    let source = read_source(plate, at, phrases::count_of(index), count);
-    let Source::Is { own: _, n, next } = source else {
+    let source = read_source(plate, ahead, at, phrases::count_of(index), count);
+    let Source::Is { own: _, n, k } = source else {
         return Field::Refused(source.refusal());
     };
-    let field = read_place(plate, next, n);
+    let field = read_place(plate, ahead, at, k, n);
     let Field::Is(_, end) = field else {
         return field;
     };
@@ -98,38 +111,42 @@ pub struct PhraseAt {
     pub next: usize,
 }
 
+// A phrase of a source of n, whose place stands k bits behind the code.
+fn place_ahead(ahead: usize, at: usize, k: usize, own: bool, n: usize) -> PhraseAt
+    requires { ⌜ (at ≤ 23624) × (k ≤ 3) × (n ≤ 256) ⌝ }
+    ensures { λ r. ⌜ (r .own ≡ own) × (r .place ≡ partAhead k (width n) ahead) × (r .next ≡ at + k + width n) ⌝ }
+{
+    let width = phrases::width_of(n);
+    PhraseAt {
+        own,
+        place: bits::part_ahead(ahead, k, width),
+        next: at + k + width,
+    }
+}
+
 // A phrase that was read before: its place is not judged again.
 pub fn accepted_phrase(
     plate: &[u8],
+    ahead: usize,
     at: usize,
     index: &[u32],
     book: &[u8],
     own: &[u8],
     count: usize,
 ) -> PhraseAt
-    requires { ⌜ Lent (now plate) (now index) (now book) (now own) count × (0 < getD (now index) 0 0 + count) × Known (phrase (bookTexts (now book)) (ownTexts count (now own)) (placeAt (now plate) at)) ⌝ }
-    ensures { λ r. ⌜ got (phraseIn (now (book .entry)) (now (own .entry)) (r .own) (r .place)) (placeAt (now (plate .entry)) (r .next)) ≡ phrase (bookTexts (now (book .entry))) (ownTexts count (now (own .entry))) (placeAt (now (plate .entry)) at) ⌝ }
+    requires { ⌜ Lent (now plate) (now index) (now book) (now own) count × (0 < getD (now index) 0 0 + count) × (ahead ≡ aheadIn (now plate) at) × (at + 2 ≤ length (now plate) * 8) × Known (phrase (bookTexts (now book)) (ownTexts count (now own)) (placeAt (now plate) (at + 2))) ⌝ }
+    ensures { λ r. ⌜ got (phraseIn (now (book .entry)) (now (own .entry)) (r .own) (r .place)) (placeAt (now (plate .entry)) (r .next)) ≡ phrase (bookTexts (now (book .entry))) (ownTexts count (now (own .entry))) (placeAt (now (plate .entry)) (at + 2)) ⌝ }
+    ensures { λ r. ⌜ (r .own ≡ false → r .place < length (bookTexts (now (book .entry)))) ⌝ }
 {
-    let source = read_source(plate, at, phrases::count_of(index), count);
-    // Never refused: the phrase was read before.
-    let Source::Is { own, n, next } = source else {
-        return PhraseAt {
-            own: false,
-            place: 0,
-            next: at,
-        };
-    };
-    let field = read_plain(plate, next, phrases::width_of(n));
-    let Field::Is(place, end) = field else {
-        return PhraseAt {
-            own: false,
-            place: 0,
-            next: at,
-        };
-    };
-    PhraseAt {
-        own,
-        place,
-        next: end,
+    let texts = phrases::count_of(index);
+    if texts == 0 {
+        return place_ahead(ahead, at, 2, true, count);
     }
+    if count == 0 {
+        return place_ahead(ahead, at, 2, false, texts);
+    }
+    if bits::part_ahead(ahead, 2, 1) == 0 {
+        return place_ahead(ahead, at, 3, false, texts);
+    }
+    place_ahead(ahead, at, 3, true, count)
 }

@@ -11,9 +11,9 @@ impl Source {
     {
         match self {
             Source::Refused(r) => r,
-            Source::Is { own: _, n: _, next } => Refusal {
+            Source::Is { own: _, n: _, k } => Refusal {
                 cause: Cause::PlateEnds,
-                place: next,
+                place: k,
             },
         }
     }

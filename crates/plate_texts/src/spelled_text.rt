@@ -1,21 +1,18 @@
 // A text that is spelled out: its characters up to ETX, judged as a whole at its first bit.
 ghost use mathlib.Core.Path.{_≡_};
-ghost use mathlib.Core.Bool.{_&&_};
-ghost use Prim.Native.Nat.{_+_, _≤_};
-ghost use lib.ListN.{length, getD};
-ghost use Rattle.text.specs.Text.{textSize};
+ghost use Prim.Native.Nat.{_≤_};
+ghost use lib.ListN.{length};
+ghost use Rattle.text.specs.Text.{Text, textSize};
 ghost use Rattle.phrases.specs.Phrases.{isNew};
 ghost use Rattle.phrases.specs.Lookup.{bookTexts, ownTexts};
 ghost use Rattle.phrases.specs.Index.{Indexed};
-ghost use Rattle.causes.specs.declared.Cause.the-variants.{Spelling};
-ghost use Rattle.plate.specs.Reading.{judged};
 ghost use Rattle.plate.specs.Plate.{spelled};
 ghost use Rattle.fields.specs.Places.{placeAt, sizeRead, untilETX, valuesOf, Known};
 use causes::Cause;
 use causes::Refusal;
 use fields::Field;
 use fields::copy_each;
-use fields::read_size;
+use fields::last_size;
 use phrases::Found;
 
 // Whether a text is no phrase.
@@ -30,8 +27,18 @@ fn is_new(index: &[u32], book: &[u8], own: &[u8], count: usize, text: &[u8]) -> 
     }
 }
 
-// Whether a text of so many characters from a bit on, up to ETX, has 1 to 64, and is no phrase.
-fn is_good(
+// Whether a text of so many characters has 1 to 64.
+pub fn is_sized(size: usize) -> bool
+    ensures { λ r. ⌜ ((t : Text) → length t ≡ size → r ≡ textSize t) ⌝ }
+{
+    if size == 0 {
+        return false;
+    }
+    size <= 64
+}
+
+// Whether a text of so many characters from a bit on, up to ETX, is no phrase.
+pub fn is_unknown(
     plate: &[u8],
     bit: usize,
     size: usize,
@@ -40,15 +47,9 @@ fn is_good(
     own: &[u8],
     count: usize,
 ) -> bool
-    requires { ⌜ (length (now plate) ≤ 2953) × Indexed (now index) (now book) × Known (untilETX (placeAt (now plate) bit)) × (size ≡ length (valuesOf (untilETX (placeAt (now plate) bit)))) ⌝ }
-    ensures { λ r. ⌜ r ≡ (textSize (valuesOf (untilETX (placeAt (now (plate .entry)) bit))) && isNew (bookTexts (now (book .entry))) (ownTexts count (now (own .entry))) (valuesOf (untilETX (placeAt (now (plate .entry)) bit)))) ⌝ }
+    requires { ⌜ (length (now plate) ≤ 2953) × Indexed (now index) (now book) × Known (untilETX (placeAt (now plate) bit)) × (size ≡ length (valuesOf (untilETX (placeAt (now plate) bit)))) × (size ≤ 64) ⌝ }
+    ensures { λ r. ⌜ r ≡ isNew (bookTexts (now (book .entry))) (ownTexts count (now (own .entry))) (valuesOf (untilETX (placeAt (now (plate .entry)) bit))) ⌝ }
 {
-    if size == 0 {
-        return false;
-    }
-    if 64 < size {
-        return false;
-    }
     let mut characters = [0u8; 64];
     copy_each(plate, bit, &mut characters, 0);
     is_new(index, book, own, count, &characters[..size])
@@ -66,30 +67,12 @@ pub fn read_spelled(
     requires { ⌜ (length (now plate) ≤ 2953) × Indexed (now index) (now book) ⌝ }
     ensures { λ r. ⌜ sizeRead (now (plate .entry)) at r ≡ spelled (bookTexts (now (book .entry))) (ownTexts count (now (own .entry))) (placeAt (now (plate .entry)) at) ⌝ }
 {
-    let field = read_size(plate, at);
+    let field = last_size(plate, at);
     let Field::Is(size, next) = field else {
         return field;
     };
-    if is_good(plate, at, size, index, book, own, count) {
-        return Field::Is(size, next);
-    }
-    Field::Refused(Refusal {
-        cause: Cause::Spelling,
-        place: at,
-    })
-}
-
-// The same where there are no phrases: a text is held to none.
-fn read_new(plate: &[u8], at: usize) -> Field
-    requires { ⌜ length (now plate) ≤ 2953 ⌝ }
-    ensures { λ r. ⌜ sizeRead (now (plate .entry)) at r ≡ judged untilETX textSize Spelling (placeAt (now (plate .entry)) at) ⌝ }
-{
-    let field = read_size(plate, at);
-    let Field::Is(size, next) = field else {
-        return field;
-    };
-    if 0 < size {
-        if size <= 64 {
+    if is_sized(size) {
+        if is_unknown(plate, at, size, index, book, own, count) {
             return Field::Is(size, next);
         }
     }
@@ -97,38 +80,4 @@ fn read_new(plate: &[u8], at: usize) -> Field
         cause: Cause::Spelling,
         place: at,
     })
-}
-
-// The same with n phrases in all.
-pub fn read_among(
-    plate: &[u8],
-    at: usize,
-    n: usize,
-    index: &[u32],
-    book: &[u8],
-    own: &[u8],
-    count: usize,
-) -> Field
-    requires { ⌜ (length (now plate) ≤ 2953) × Indexed (now index) (now book) × (n ≡ getD (now index) 0 0 + count) ⌝ }
-    ensures { λ r. ⌜ sizeRead (now (plate .entry)) at r ≡ spelled (bookTexts (now (book .entry))) (ownTexts count (now (own .entry))) (placeAt (now (plate .entry)) at) ⌝ }
-{
-    if n == 0 {
-        return read_new(plate, at);
-    }
-    read_spelled(plate, at, index, book, own, count)
-}
-
-// The same of a text that was read before: it is not judged again.
-pub fn accepted_spelled(
-    plate: &[u8],
-    at: usize,
-    index: &[u32],
-    book: &[u8],
-    own: &[u8],
-    count: usize,
-) -> Field
-    requires { ⌜ (length (now plate) ≤ 2953) × Indexed (now index) (now book) × Known (spelled (bookTexts (now book)) (ownTexts count (now own)) (placeAt (now plate) at)) ⌝ }
-    ensures { λ r. ⌜ sizeRead (now (plate .entry)) at r ≡ spelled (bookTexts (now (book .entry))) (ownTexts count (now (own .entry))) (placeAt (now (plate .entry)) at) ⌝ }
-{
-    read_size(plate, at)
 }

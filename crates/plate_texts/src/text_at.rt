@@ -1,14 +1,17 @@
 // Texts of a plate that are read first: spelled out, or a phrase; and several, one behind the other.
 use crate::phrase_place::pass_phrase;
-use crate::spelled_text::read_among;
+use crate::spelled_text::is_sized;
+use crate::spelled_text::is_unknown;
 use causes::Cause;
 use causes::Refusal;
 use fields::Field;
-use fields::read_plain;
+use fields::plain_ahead;
+use fields::read_size;
 ghost use mathlib.Core.Path.{_≡_};
-ghost use Prim.Native.Nat.{_+_, _≤_};
+ghost use Prim.Native.Nat.{_≤_};
 ghost use lib.ListN.{length};
 ghost use Rattle.causes.specs.declared.Cause.the-variants.{Unused};
+ghost use Rattle.bits.specs.Ahead.{aheadIn};
 ghost use Rattle.phrases.specs.Lookup.{phrasesIn};
 ghost use Rattle.plate.specs.Reading.{number, judged, many};
 ghost use Rattle.plate.specs.Plate as reader;
@@ -27,11 +30,11 @@ fn is_code(code: usize, n: usize) -> bool
 }
 
 // The code of a text, with so many phrases.
-pub fn read_code(plate: &[u8], at: usize, n: usize) -> Field
-    requires { ⌜ length (now plate) ≤ 2953 ⌝ }
+pub fn read_code(plate: &[u8], ahead: usize, at: usize, n: usize) -> Field
+    requires { ⌜ (length (now plate) ≤ 2953) × (ahead ≡ aheadIn (now plate) at) ⌝ }
     ensures { λ r. ⌜ fieldRead (now (plate .entry)) r ≡ judged (number 2) (codeWith n) Unused (placeAt (now (plate .entry)) at) ⌝ }
 {
-    let field = read_plain(plate, at, 2);
+    let field = plain_ahead(plate, ahead, at, 0, 2);
     let Field::Is(code, next) = field else {
         return field;
     };
@@ -57,18 +60,30 @@ pub fn pass_text(
     ensures { λ r. ⌜ fieldRead (now (plate .entry)) r ≡ endWith 0 (reader.text (phrasesIn (now (book .entry)) (now (own .entry)) count) (placeAt (now (plate .entry)) at)) ⌝ }
 {
     let n = phrases::count_of(index) + count;
-    let field = read_code(plate, at, n);
+    let ahead = bits::read_ahead(plate, at);
+    let field = read_code(plate, ahead, at, n);
     let Field::Is(code, bit) = field else {
         return field;
     };
     if code != 0 {
-        return pass_phrase(plate, bit, index, book, own, count);
+        return pass_phrase(plate, ahead, at, index, book, own, count);
     }
-    let spelled = read_among(plate, bit, n, index, book, own, count);
-    let Field::Is(_, next) = spelled else {
-        return spelled;
+    let characters = read_size(plate, bit);
+    let Field::Is(size, next) = characters else {
+        return characters;
     };
-    Field::Is(0, next)
+    if is_sized(size) {
+        if n == 0 {
+            return Field::Is(0, next);
+        }
+        if is_unknown(plate, bit, size, index, book, own, count) {
+            return Field::Is(0, next);
+        }
+    }
+    Field::Refused(Refusal {
+        cause: Cause::Spelling,
+        place: bit,
+    })
 }
 
 // The bit behind n texts, one behind the other.

@@ -12,6 +12,7 @@ use causes::Outcome;
 use instructions::Head;
 use instructions::accepted_end;
 use instructions::accepted_head;
+use instructions::accepted_if;
 use transcript::Machine;
 use transcript::Performed;
 use transcript::Test;
@@ -118,7 +119,10 @@ fn perform_next<'a>(
         Head::Print { text } => show(plate, text, index, book, own, count, out, at, m),
         Head::Printex { text } => rule(plate, text, index, book, own, count, out, at, m),
         Head::Goto { skip, next } => go_on(machine::stepped(m), at, skip, next),
-        Head::IfSkip { test, skip, next } => decide(registers, test, skip, next, m, at),
+        Head::IfSkip { bit, ahead } => {
+            let read = accepted_if(plate, bit, ahead);
+            decide(registers, read.test, read.skip, read.next, m, at)
+        }
     }
 }
 

@@ -1,6 +1,7 @@
 // Tries the crate phrases on the cases of its standard input: the check of a book, a text's place among the phrases, the text of a
 // phrase, and the width of a place. Writes a line for each case; model/README.md has the format. A lookup in a
 // bad book is answered with the book's first bad line.
+ghost use Rattle.phrases.specs.Index.{Indexed};
 use phrases::Book;
 use phrases::Found;
 
@@ -52,6 +53,15 @@ fn find(s: &[u8], at: usize) -> usize {
     vectors::past_slice(s, last)
 }
 
+// The text of the phrase at a place; of none, nothing.
+fn text_at<'a>(index: &'a [u32], book: &'a [u8], own: &'a [u8], is_own: bool, i: usize)
+    requires { ⌜ Indexed (now index) (now book) ⌝ }
+{
+    if is_own || i < phrases::count_of(index) {
+        vectors::write_hex(phrases::phrase_text(index, book, own, is_own, i));
+    }
+}
+
 // The text of a phrase.
 fn text(s: &[u8], at: usize) -> usize {
     let mut index = [0u32; 385];
@@ -62,13 +72,7 @@ fn text(s: &[u8], at: usize) -> usize {
     let book = vectors::slice(s, at);
     match phrases::check_book(book, &mut index) {
         Book::Bad(line) => numbered(false, line),
-        Book::Holds(_) => vectors::write_hex(phrases::phrase_text(
-            &index,
-            book,
-            vectors::slice(s, second),
-            is_own,
-            i,
-        )),
+        Book::Holds(_) => text_at(&index, book, vectors::slice(s, second), is_own, i),
     }
     vectors::past(third, 12)
 }

@@ -4,9 +4,10 @@ use native.Mathlib.Omega.{arith}
 use Rattle.text.specs.Quoted.{bytes}
 use Rattle.output.proofs.Pour.{then}
 use Rattle.plate_texts.proofs.CopiedTexts.{poured-alike}
+use Rattle.instructions.proofs.Counted.{options-end}
 use Rattle.instructions.proofs.Headed.{inputs-text, inputs-options, inputs-is, inputs-end}
 use Rattle.listing_lines.proofs.LineBytes.{more-fields}
-use Rattle.listing_lines.proofs.HeadLines.{line-is, options-end}
+use Rattle.listing_lines.proofs.HeadLines.{line-is}
 use borrow.Author.Needs.{needs}
 use Rattle.listing_lines.proofs.put_inputs.Statement.{statement}
 use Rattle.listing_lines.proofs.put_inputs.Tie as tie

@@ -1,6 +1,7 @@
 -- `perform_next` meets its contract, by the head of the instruction.
 use mathlib.Core.Path.{ap, _∙_}
 use Rattle.fields.specs.Places.{endWith}
+use Rattle.instructions.proofs.HeadRead.{instruction-at}
 use Rattle.instructions.proofs.Headed.{goto-is, goto-read, if-is, if-read}
 use Rattle.run_steps.proofs.Meeting.{lay-goto, over-goto, lay-if, over-if, head-known, head-left, head-over, head-end}
 use borrow.Author.Needs.{needs}
@@ -8,7 +9,7 @@ use Rattle.run_steps.proofs.perform_next.Statement.{statement}
 use Rattle.run_steps.proofs.perform_next.Tie as tie
 
 accepted-head-requires : tie.Need-accepted-head-requires
-accepted-head-requires c κs = search needs
+accepted-head-requires c κs = let pre = c .before .before .before .before .before .pre in (pre .0 .short, instruction-at _ _ _ _ (pre .1) (pre .0 .short))
 
 enum-known-register : tie.Need-enum-known-register
 enum-known-register c = search needs
@@ -47,12 +48,16 @@ stepped-requires c κs = search needs
 go-on-requires : tie.Need-go-on-requires
 go-on-requires c κs = search needs
 
-enum-known-test : tie.Need-enum-known-test
-enum-known-test c = search needs
+enum-known-bit : tie.Need-enum-known-bit
+enum-known-bit c = search needs
+
+accepted-if-requires : tie.Need-accepted-if-requires
+accepted-if-requires c κs =
+    let fits = simp (c .before .bit .given .1) at (c .before .before .before .accepted-head .ensures .1) in
+    (c .before .before .before .before .before .before .before .before .before .pre .0 .short, fits .0, fits .1)
 
 decide-requires : tie.Need-decide-requires
-decide-requires c κs =
-    let fits = simp (c .before .before .test .given .1) at (c .before .before .before .before .accepted-head .ensures .1) in (fits .0, search needs)
+decide-requires c κs = search needs
 
 same-length : tie.Need-same-length
 same-length c = search needs
@@ -94,9 +99,10 @@ returns-5 c =
 
 returns-6 : tie.Need-returns-6
 returns-6 c =
-    let e = c .before .before .before .before .before .accepted-head .ensures .0 _ _ (c .before .before .before .before .before .before .before .before .before .before .before .pre .1) in
-    let is = if-is _ _ _ e (c .before .before .before .test .given .1) in
-    (lay-if _ _ _ is _ _ _ (c .decide .ensures .0 _ _), ((over-if _ _ _ is (c .decide .ensures .1 .0 _), c .decide .ensures .1 .1 .1), rw (c .decide .ensures .1 .1 .0) (ap (endWith 0) (if-read _ _ _ e (c .before .before .before .test .given .1)))))
+    let w = c .before .before .before .before .before .before .before .before .before .before .before .before .pre .1 in
+    let e = c .before .before .before .before .before .before .accepted-head .ensures .0 _ _ w in
+    let is = if-is _ _ _ e w _ (c .before .before .before .before .bit .given .1) (c .before .before .accepted-if .ensures .0) in
+    (lay-if _ _ _ is _ _ _ (c .decide .ensures .0 _ _), ((over-if _ _ _ is (c .decide .ensures .1 .0 _), c .decide .ensures .1 .1 .1), rw (c .decide .ensures .1 .1 .0) (ap (endWith 0) (if-read _ _ _ e w _ (c .before .before .before .before .bit .given .1) (c .before .before .accepted-if .ensures .0)))))
 
 pub perform-next-spec : {M : Type 1} → statement M
 perform-next-spec =
@@ -114,7 +120,8 @@ perform-next-spec =
     enum-known-skip
     stepped-requires
     go-on-requires
-    enum-known-test
+    enum-known-bit
+    accepted-if-requires
     decide-requires
     same-length
     returns

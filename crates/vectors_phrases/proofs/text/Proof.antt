@@ -36,17 +36,14 @@ numbered-requires c κs = search needs
 enum-told : tie.Need-enum-told
 enum-told c = search needs
 
-slice-aggregate-phrase-text : tie.Need-slice-aggregate-phrase-text
-slice-aggregate-phrase-text c = search needs
+slice-aggregate-text-at : tie.Need-slice-aggregate-text-at
+slice-aggregate-text-at c = search needs
 
 slice-requires-2 : tie.Need-slice-requires-2
 slice-requires-2 c κs = search needs
 
-phrase-text-requires : tie.Need-phrase-text-requires
-phrase-text-requires c κs = c .before .before .before .before .before .check-book .ensures .1 _ (c .before .before .enum-told .given .1)
-
-write-hex-requires : tie.Need-write-hex-requires
-write-hex-requires c κs = search needs
+text-at-requires : tie.Need-text-at-requires
+text-at-requires c κs = c .before .before .before .before .before .check-book .ensures .1 _ (c .before .before .enum-told .given .1)
 
 past-requires-2 : tie.Need-past-requires-2
 past-requires-2 c κs = search needs
@@ -69,9 +66,8 @@ text-spec =
     enum-known-line
     numbered-requires
     enum-told
-    slice-aggregate-phrase-text
+    slice-aggregate-text-at
     slice-requires-2
-    phrase-text-requires
-    write-hex-requires
+    text-at-requires
     past-requires-2
     returns)

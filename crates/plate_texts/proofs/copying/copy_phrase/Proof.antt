@@ -10,7 +10,7 @@ accepted-phrase-requires : tie.Need-accepted-phrase-requires
 accepted-phrase-requires c κs = search needs
 
 phrase-text-requires : tie.Need-phrase-text-requires
-phrase-text-requires c κs = search needs
+phrase-text-requires c κs = (c .before .before .before .before .before .before .pre .0 .indexed, c .accepted-phrase .ensures .1)
 
 put-requires : tie.Need-put-requires
 put-requires c κs = search needs
@@ -20,8 +20,8 @@ same-length c = search needs
 
 returns : tie.Need-returns
 returns c = (
-  poured-alike _ _ (c .before .before .put .ensures) (c .before .before .before .before .phrase-text .ensures ∙ ap valuesOf (c .before .before .before .before .before .accepted-phrase .ensures)),
-  ap (endWith 0) (c .before .before .before .before .before .accepted-phrase .ensures),
+  poured-alike _ _ (c .before .before .put .ensures) (c .before .before .before .before .phrase-text .ensures ∙ ap valuesOf (c .before .before .before .before .before .accepted-phrase .ensures .0)),
+  ap (endWith 0) (c .before .before .before .before .before .accepted-phrase .ensures .0),
 )
 
 pub copy-phrase-spec : {M : Type 1} → statement M

@@ -1,85 +1,85 @@
 -- `copy_text` meets its contract: the text is no refusal, and is its characters or its phrase.
+use Prim.Native.Nat.{_+_}
 use mathlib.Core.Path.{_≡_, _∙_}
 use native.Mathlib.Omega.{arith}
 use borrow.Author.Needs.{needs}
-use Rattle.phrases.specs.Lookup.{phrasesIn}
+use Rattle.phrases.specs.Lookup.{bookTexts, ownTexts, phrasesIn}
 use Rattle.causes.specs.declared.Cause.the-variants.{Unused}
-use Rattle.plate.specs.Reading.{number, judged}
+use Rattle.plate.specs.Reading.{got, number, judged}
 use Rattle.plate.specs.Plate.{spelled}
 use Rattle.plate.specs.Plate as reader
-use Rattle.fields.specs.Places.{placeAt, fieldRead, untilETX}
-use Rattle.fields.proofs.Onward.{then-got, then-stopped}
-use Rattle.fields.proofs.Answers.{field-got, field-refused}
+use Rattle.fields.specs.Places.{placeAt, untilETX, Known}
+use Rattle.fields.proofs.Onward.{then-got}
 use Rattle.plate_texts.proofs.PhraseRead.{book-count}
-use Rattle.plate_texts.proofs.TextsRead.{known-code, known-phrase, by-spelled, by-phrase}
+use Rattle.plate_texts.proofs.TextsRead.{code-ahead, code-room, known-phrase, by-spelled, by-phrase}
 use Rattle.plate_texts.proofs.Known.{known-same, known-then, known-judged}
 use Rattle.plate_texts.proofs.CopiedTexts.{copied-alike}
 use Rattle.plate_texts.proofs.copying.copy_text.Statement.{statement}
 use Rattle.plate_texts.proofs.copying.copy_text.Tie as tie
 
 -- the code, as the reader judges it
-code-read : (c : tie.After-read-plain) →
-    let a = c .before .before .before .before .before .before .args in
-    fieldRead (a .plate .now) (c .read-plain .result)
+code-read : (c : tie.After-part-ahead) →
+    let a = c .before .before .before .before .before .before .before .args in
+    got (c .part-ahead .result) (placeAt (a .plate .now) (a .at + 2))
     ≡ judged (number 2) (reader.isTextCode (phrasesIn (a .book .now) (a .own .now) (a .count))) Unused (placeAt (a .plate .now) (a .at))
-code-read c = c .read-plain .ensures ∙ known-code _ _ _ (c .before .before .before .before .before .before .pre .1)
+code-read c = code-ahead _ _ _ (c .before .before .before .before .before .before .before .pre .1) _ _ (c .before .read-ahead .ensures) (c .part-ahead .ensures .0)
 
-read-plain-requires : tie.Need-read-plain-requires
-read-plain-requires c κs = search needs
-
-enum-known-field : tie.Need-enum-known-field
-enum-known-field c = search needs
-
-enum-told : tie.Need-enum-told
-enum-told c = search needs
-
-returns : tie.Need-returns
+-- a text that is spelled out behind its code
+spelled-known : (c : tie.Else1) →
+    let a = c .before .before .before .before .before .before .before .before .args in
+    Known (spelled (bookTexts (a .book .now)) (ownTexts (a .count) (a .own .now)) (placeAt (a .plate .now) (a .at + 2)))
 unfolding reader.text
-returns c = absurd (c .before .before .before .before .before .before .before .before .pre .1 .good (then-stopped _ _ _ (field-refused _ _ (code-read (c .before .before)) (c .enum-told .given .1))))
+spelled-known c = known-same (by-spelled _ _ _ (c .if1 .left)) (known-then _ _ _ (c .before .before .before .before .before .before .before .before .pre .1) (code-read (c .before)))
+
+read-ahead-requires : tie.Need-read-ahead-requires
+read-ahead-requires c κs = search needs
+
+part-ahead-requires : tie.Need-part-ahead-requires
+part-ahead-requires c κs = search needs
 
 copy-phrase-requires : tie.Need-copy-phrase-requires
 unfolding reader.text
 copy-phrase-requires c κs =
-    let pre = c .before .before .before .before .before .before .before .before .before .before .before .pre in
-    let code = field-got _ _ (code-read (c .before .before .before .before .before)) (c .before .before .before .field .given .1) in
+    let pre = c .before .before .before .before .before .before .before .before .before .pre in
+    let code = code-read (c .before .before) in
     let some = known-phrase _ _ _ _ _ code (c .before .if1 .taken) in
-    (search needs, omega (arith, some, book-count (pre .0), pre .0 .whole), known-same (by-phrase _ _ _ (c .before .if1 .taken)) (known-then _ _ _ (pre .1) code))
+    (pre .0, omega (arith, some, book-count (pre .0), pre .0 .whole), c .before .before .before .read-ahead .ensures, code-room _ _ _ (pre .1), known-same (by-phrase _ _ _ (c .before .if1 .taken)) (known-then _ _ _ (pre .1) code))
 
 same-length : tie.Need-same-length
 same-length c = search needs
 
-returns-2 : tie.Need-returns-2
+returns : tie.Need-returns
 unfolding reader.text
-returns-2 c = copied-alike _ _ (by-phrase _ _ _ (c .before .before .before .before .if1 .taken) ∙ then-got _ _ _ (field-got _ _ (code-read (c .before .before .before .before .before .before .before .before)) (c .before .before .before .before .before .before .field .given .1))) (c .before .before .copy-phrase .ensures)
+returns c = copied-alike _ _ (by-phrase _ _ _ (c .before .before .before .before .if1 .taken) ∙ then-got _ _ _ (code-read (c .before .before .before .before .before))) (c .before .before .copy-phrase .ensures)
+
+add-copy-characters : tie.Need-add-copy-characters
+add-copy-characters c = let pre = c .before .before .before .before .before .before .before .before .pre in omega (arith, code-room _ _ _ (pre .1), pre .0 .short)
 
 copy-characters-requires : tie.Need-copy-characters-requires
-unfolding reader.text spelled
+unfolding spelled
 copy-characters-requires c κs =
-    let pre = c .before .before .before .before .before .before .before .before .before .before .before .pre in
-    let w = known-same (by-spelled _ _ _ (c .before .if1 .left)) (known-then _ _ _ (pre .1) (field-got _ _ (code-read (c .before .before .before .before .before)) (c .before .before .before .field .given .1))) in
-    (pre .0 .short, known-same (known-judged untilETX _ _ _ _ w) w)
+    let w = spelled-known (c .before) in
+    (c .before .before .before .before .before .before .before .before .before .pre .0 .short, known-same (known-judged untilETX _ _ _ _ w) w)
 
 same-length-2 : tie.Need-same-length-2
 same-length-2 c = search needs
 
-returns-3 : tie.Need-returns-3
+returns-2 : tie.Need-returns-2
 unfolding reader.text spelled
-returns-3 c =
-    let code = field-got _ _ (code-read (c .before .before .before .before .before .before .before .before)) (c .before .before .before .before .before .before .field .given .1) in
-    let w = known-same (by-spelled _ _ _ (c .before .before .before .before .if1 .left)) (known-then _ _ _ (c .before .before .before .before .before .before .before .before .before .before .before .before .before .before .pre .1) code) in
-    copied-alike _ _ (known-judged untilETX _ _ _ _ w ∙ by-spelled _ _ _ (c .before .before .before .before .if1 .left) ∙ then-got _ _ _ code) (c .before .before .copy-characters .ensures)
+returns-2 c =
+    copied-alike _ _ (known-judged untilETX _ _ _ _ (spelled-known (c .before .before .before .before)) ∙ by-spelled _ _ _ (c .before .before .before .before .if1 .left) ∙ then-got _ _ _ (code-read (c .before .before .before .before .before)))
+    (c .before .before .copy-characters .ensures)
 
 pub copy-text-spec : {M : Type 1} → statement M
 copy-text-spec =
     tie.close
     (tie.spec
-    read-plain-requires
-    enum-known-field
-    enum-told
-    returns
+    read-ahead-requires
+    part-ahead-requires
     copy-phrase-requires
     same-length
-    returns-2
+    returns
+    add-copy-characters
     copy-characters-requires
     same-length-2
-    returns-3)
+    returns-2)

@@ -1,18 +1,35 @@
 -- `pass_phrase` meets its contract: the source, and the place there.
-use mathlib.Core.Path.{refl, sym, ap, _∙_}
+use Prim.Native.Nat.{_+_}
+use mathlib.Core.Path.{_≡_, refl, sym, ap, _∙_}
+use native.Mathlib.Omega.{arith}
+use lib.ListN.{length}
 use borrow.Author.Needs.{needs}
-use Rattle.fields.specs.Places.{endWith, fieldRead}
+use Rattle.phrases.specs.Lookup.{bookTexts, ownTexts}
+use Rattle.plate.specs.Reading.{got}
+use Rattle.fields.specs.Places.{placeAt, endWith, fieldRead}
 use Rattle.fields.proofs.Answers.{answered, refused}
-use Rattle.plate_texts.specs.Sources.{sourceRead, sourceRefusal}
+use Rattle.plate_texts.specs.Sources.{source, sourceRead, sourceRefusal}
+use Rattle.plate_texts.proofs.SourceRead.{source-near}
 use Rattle.plate_texts.proofs.PhraseRead.{source-of, source-stopped, source-good, phrase-read, phrase-ended}
 use Rattle.plate_texts.proofs.phrase_place.pass_phrase.Statement.{statement}
 use Rattle.plate_texts.proofs.phrase_place.pass_phrase.Tie as tie
+
+-- the source, of the book's texts and of the own ones
+source-read : (c : tie.After-source) →
+    let b = c .before .before .before .before .before .before .before .before in
+    let s = c .source .given .0 in
+    got (s .0, s .1 .0) (placeAt (b .args .plate .now) (b .args .at + s .1 .1 .0))
+    ≡ source (length (bookTexts (b .args .book .now))) (length (ownTexts (b .args .count) (b .args .own .now))) (placeAt (b .args .plate .now) (b .args .at + 2))
+source-read c =
+    let b = c .before .before .before .before .before .before .before .before in
+    answered (sourceRead (b .args .plate .now) (b .args .at)) sourceRefusal
+    (source-of (b .pre .0) (b .args .at) _ (c .before .before .read-source .result) (c .before .before .before .count-of .ensures) (c .before .before .read-source .ensures)) (c .source .given .1)
 
 count-of-requires : tie.Need-count-of-requires
 count-of-requires c κs = search needs
 
 read-source-requires : tie.Need-read-source-requires
-read-source-requires c κs = search needs
+read-source-requires c κs = let b = c .before .before .before .before .before in (b .pre .0 .short, b .pre .2, omega (arith, b .pre .3, b .pre .0 .short))
 
 enum-known-source : tie.Need-enum-known-source
 enum-known-source c = search needs
@@ -24,13 +41,19 @@ refusal-requires : tie.Need-refusal-requires
 refusal-requires c κs = search needs
 
 returns : tie.Need-returns
-returns c = ap (endWith 0) (source-stopped (c .before .before .before .before .before .before .before .before .before .pre .0) (c .before .before .before .before .before .before .before .before .before .args .at)
-    (refused (sourceRead (c .before .before .before .before .before .before .before .before .before .args .plate .now)) sourceRefusal (source-of (c .before .before .before .before .before .before .before .before .before .pre .0) (c .before .before .before .before .before .before .before .before .before .args .at) _ (c .before .before .before .read-source .result) (c .before .before .before .before .count-of .ensures) (c .before .before .before .read-source .ensures)) (c .before .enum-told .given .1) (c .refusal .ensures) refl))
+returns c =
+    let b = c .before .before .before .before .before .before .before .before .before in
+    let e = source-of (b .pre .0) (b .args .at) _ (c .before .before .before .read-source .result) (c .before .before .before .before .count-of .ensures) (c .before .before .before .read-source .ensures) in
+    ap (endWith 0) (source-stopped (b .pre .0) (b .args .at)
+    (refused (sourceRead (b .args .plate .now) (b .args .at)) sourceRefusal e (c .before .enum-told .given .1) (c .refusal .ensures) refl))
 
 read-place-requires : tie.Need-read-place-requires
-read-place-requires c κs = let e = answered (sourceRead (c .before .before .before .before .before .before .before .before .before .args .plate .now)) sourceRefusal (source-of (c .before .before .before .before .before .before .before .before .before .pre .0) (c .before .before .before .before .before .before .before .before .before .args .at) _ (c .before .before .before .read-source .result) (c .before .before .before .before .count-of .ensures) (c .before .before .before .read-source .ensures)) (c .before .source .given .1) in
-    let good = source-good (c .before .before .before .before .before .before .before .before .before .pre .0) (c .before .before .before .before .before .before .before .before .before .args .at) _ _ _ e (c .before .before .before .before .before .before .before .before .before .pre .1) in
-    (search needs, good .some, good .few)
+read-place-requires c κs =
+    let b = c .before .before .before .before .before .before .before .before .before in
+    let e = source-read (c .before) in
+    let near = source-near _ _ _ _ _ _ e in
+    let good = source-good (b .pre .0) (b .args .at) _ _ _ e (b .pre .1) in
+    (b .pre .0 .short, b .pre .2, omega (arith, near, b .pre .3, b .pre .0 .short), near, good .few)
 
 enum-known-field : tie.Need-enum-known-field
 enum-known-field c = search needs
@@ -39,18 +62,22 @@ enum-told-2 : tie.Need-enum-told-2
 enum-told-2 c = search needs
 
 returns-2 : tie.Need-returns-2
-returns-2 c = let e = answered (sourceRead (c .before .before .before .before .before .before .before .before .before .before .before .before .args .plate .now)) sourceRefusal (source-of (c .before .before .before .before .before .before .before .before .before .before .before .before .pre .0) (c .before .before .before .before .before .before .before .before .before .before .before .before .args .at) _ (c .before .before .before .before .before .before .read-source .result) (c .before .before .before .before .before .before .before .count-of .ensures) (c .before .before .before .before .before .before .read-source .ensures)) (c .before .before .before .before .source .given .1) in
+returns-2 c =
+    let b = c .before .before .before .before .before .before .before .before .before .before .before .before in
+    let e = source-read (c .before .before .before .before) in
     let f = c .before .before .read-place .result in
-    ap (fieldRead (c .before .before .before .before .before .before .before .before .before .before .before .before .args .plate .now)) (c .enum-told2 .given .1) ∙ ap (λ f. endWith 0 (fieldRead (c .before .before .before .before .before .before .before .before .before .before .before .before .args .plate .now) f)) (sym (c .enum-told2 .given .1))
-    ∙ phrase-ended (c .before .before .before .before .before .before .before .before .before .before .before .before .args .plate .now) (c .before .before .before .before .before .before .before .before .before .before .before .before .args .book .now) (c .before .before .before .before .before .before .before .before .before .before .before .before .args .own .now) f (c .before .before .before .before .source .given .0 .0)
-    ∙ ap (endWith 0) (phrase-read (c .before .before .before .before .before .before .before .before .before .before .before .before .pre .0) (c .before .before .before .before .before .before .before .before .before .before .before .before .args .at) _ _ _ e (source-good (c .before .before .before .before .before .before .before .before .before .before .before .before .pre .0) (c .before .before .before .before .before .before .before .before .before .before .before .before .args .at) _ _ _ e (c .before .before .before .before .before .before .before .before .before .before .before .before .pre .1)) f (c .before .before .read-place .ensures))
+    ap (fieldRead (b .args .plate .now)) (c .enum-told2 .given .1) ∙ ap (λ f. endWith 0 (fieldRead (b .args .plate .now) f)) (sym (c .enum-told2 .given .1))
+    ∙ phrase-ended (b .args .plate .now) (b .args .book .now) (b .args .own .now) f (c .before .before .before .before .source .given .0 .0)
+    ∙ ap (endWith 0) (phrase-read (b .pre .0) (b .args .at) _ _ _ e (source-good (b .pre .0) (b .args .at) _ _ _ e (b .pre .1)) f (c .before .before .read-place .ensures))
 
 returns-3 : tie.Need-returns-3
-returns-3 c = let e = answered (sourceRead (c .before .before .before .before .before .before .before .before .before .before .before .before .before .args .plate .now)) sourceRefusal (source-of (c .before .before .before .before .before .before .before .before .before .before .before .before .before .pre .0) (c .before .before .before .before .before .before .before .before .before .before .before .before .before .args .at) _ (c .before .before .before .before .before .before .before .read-source .result) (c .before .before .before .before .before .before .before .before .count-of .ensures) (c .before .before .before .before .before .before .before .read-source .ensures)) (c .before .before .before .before .before .source .given .1) in
+returns-3 c =
+    let b = c .before .before .before .before .before .before .before .before .before .before .before .before .before in
+    let e = source-read (c .before .before .before .before .before) in
     let f = c .before .before .before .read-place .result in
-    ap (λ f. endWith 0 (fieldRead (c .before .before .before .before .before .before .before .before .before .before .before .before .before .args .plate .now) f)) (sym (c .before .field .given .1))
-    ∙ phrase-ended (c .before .before .before .before .before .before .before .before .before .before .before .before .before .args .plate .now) (c .before .before .before .before .before .before .before .before .before .before .before .before .before .args .book .now) (c .before .before .before .before .before .before .before .before .before .before .before .before .before .args .own .now) f (c .before .before .before .before .before .source .given .0 .0)
-    ∙ ap (endWith 0) (phrase-read (c .before .before .before .before .before .before .before .before .before .before .before .before .before .pre .0) (c .before .before .before .before .before .before .before .before .before .before .before .before .before .args .at) _ _ _ e (source-good (c .before .before .before .before .before .before .before .before .before .before .before .before .before .pre .0) (c .before .before .before .before .before .before .before .before .before .before .before .before .before .args .at) _ _ _ e (c .before .before .before .before .before .before .before .before .before .before .before .before .before .pre .1)) f (c .before .before .before .read-place .ensures))
+    ap (λ f. endWith 0 (fieldRead (b .args .plate .now) f)) (sym (c .before .field .given .1))
+    ∙ phrase-ended (b .args .plate .now) (b .args .book .now) (b .args .own .now) f (c .before .before .before .before .before .source .given .0 .0)
+    ∙ ap (endWith 0) (phrase-read (b .pre .0) (b .args .at) _ _ _ e (source-good (b .pre .0) (b .args .at) _ _ _ e (b .pre .1)) f (c .before .before .before .read-place .ensures))
 
 pub pass-phrase-spec : {M : Type 1} → statement M
 pass-phrase-spec =

@@ -1,4 +1,5 @@
 -- `read_source` meets its contract: own phrases alone, the book alone, or the bit that says which.
+use Prim.Native.Nat.{_+_}
 use mathlib.Core.Path.{_≡_, _∙_}
 use borrow.Author.Needs.{needs}
 use Rattle.plate.specs.Reading.{number, return, _>>=_}
@@ -6,6 +7,7 @@ use Rattle.fields.specs.Places.{placeAt}
 use Rattle.fields.proofs.Onward.{then-got, then-stopped}
 use Rattle.fields.proofs.Answers.{field-got, field-stopped}
 use Rattle.plate_texts.specs.Sources.{sourceBy, source}
+use Rattle.plate_texts.proofs.Behind.{bit-read}
 use Rattle.plate_texts.proofs.SourceRead.{only-own, only-book, both, bit-book, bit-own}
 use Rattle.plate_texts.proofs.phrase_place.read_source.Statement.{statement}
 use Rattle.plate_texts.proofs.phrase_place.read_source.Tie as tie
@@ -13,8 +15,8 @@ use Rattle.plate_texts.proofs.phrase_place.read_source.Tie as tie
 -- both have phrases
 two : (k : tie.Else2)
     → let a = k .before .before .before .args in
-    (number 1 >>= (λ b. return (sourceBy (a .texts) (a .count) b))) (placeAt (a .plate .now) (a .at))
-    ≡ source (a .texts) (a .count) (placeAt (a .plate .now) (a .at))
+    (number 1 >>= (λ b. return (sourceBy (a .texts) (a .count) b))) (placeAt (a .plate .now) (a .at + 2))
+    ≡ source (a .texts) (a .count) (placeAt (a .plate .now) (a .at + 2))
 two k = both _ _ _ (k .before .if1 .left) (k .if2 .left)
 
 returns : tie.Need-returns
@@ -23,8 +25,8 @@ returns c = only-own _ _ _ (c .if1 .taken)
 returns-2 : tie.Need-returns-2
 returns-2 c = only-book _ _ _ (c .before .if1 .left) (c .if2 .taken)
 
-read-plain-requires : tie.Need-read-plain-requires
-read-plain-requires c κs = search needs
+plain-ahead-requires : tie.Need-plain-ahead-requires
+plain-ahead-requires c κs = search needs
 
 enum-known-field : tie.Need-enum-known-field
 enum-known-field c = search needs
@@ -38,18 +40,18 @@ refusal-requires c κs = search needs
 returns-3 : tie.Need-returns-3
 returns-3 c =
     let k = c .before .before .before in
-    then-stopped _ _ _ (field-stopped _ _ (k .read-plain .ensures) (c .before .enum-told .given .1) (c .refusal .ensures)) ∙ two (k .before)
+    then-stopped _ _ _ (field-stopped _ _ (k .plain-ahead .ensures) (c .before .enum-told .given .1) (c .refusal .ensures)) ∙ two (k .before)
 
 returns-4 : tie.Need-returns-4
 returns-4 c =
     let k = c .before .before .before .before in
-    bit-book _ _ _ _ (c .if3 .taken) ∙ then-got _ _ _ (field-got _ _ (k .read-plain .ensures) (c .before .before .field .given .1))
+    bit-book _ _ _ _ (c .if3 .taken) ∙ then-got _ _ _ (bit-read _ _ _ _ (field-got _ _ (k .plain-ahead .ensures) (c .before .before .field .given .1)))
     ∙ two (k .before)
 
 returns-5 : tie.Need-returns-5
 returns-5 c =
     let k = c .before .before .before .before in
-    bit-own _ _ _ _ (c .if3 .left) ∙ then-got _ _ _ (field-got _ _ (k .read-plain .ensures) (c .before .before .field .given .1))
+    bit-own _ _ _ _ (c .if3 .left) ∙ then-got _ _ _ (bit-read _ _ _ _ (field-got _ _ (k .plain-ahead .ensures) (c .before .before .field .given .1)))
     ∙ two (k .before)
 
 pub read-source-spec : {M : Type 1} → statement M
@@ -58,7 +60,7 @@ read-source-spec =
     (tie.spec
     returns
     returns-2
-    read-plain-requires
+    plain-ahead-requires
     enum-known-field
     enum-told
     refusal-requires

@@ -4,15 +4,15 @@ use lib.ListN.{length}
 use borrow.Author.Needs.{needs}
 use Rattle.plate.specs.Plate.{spelled}
 use Rattle.fields.specs.Places.{untilETX, valuesOf}
-use Rattle.fields.proofs.Onward.{judged-got, judged-not}
 use Rattle.fields.proofs.Answers.{size-got, size-kept}
 use Rattle.fields.proofs.Copies.{length-characters}
 use Rattle.fields.proofs.TextCopy.{got-known}
+use Rattle.plate_texts.proofs.Spelled.{sized-few, spelled-got, spelled-sized, spelled-phrase}
 use Rattle.plate_texts.proofs.spelled_text.read_spelled.Statement.{statement}
 use Rattle.plate_texts.proofs.spelled_text.read_spelled.Tie as tie
 
-read-size-requires : tie.Need-read-size-requires
-read-size-requires c κs = search needs
+last-size-requires : tie.Need-last-size-requires
+last-size-requires c κs = search needs
 
 enum-known-field : tie.Need-enum-known-field
 enum-known-field c = search needs
@@ -22,33 +22,38 @@ enum-told c = search needs
 
 returns : tie.Need-returns
 unfolding spelled
-returns c = size-kept _ _ _ _ _ (c .enum-told .given .1) untilETX (c .before .before .read-size .ensures)
+returns c = size-kept _ _ _ _ _ (c .enum-told .given .1) untilETX (c .before .before .last-size .ensures)
 
-is-good-requires : tie.Need-is-good-requires
-is-good-requires c κs =
-    let e = size-got _ _ _ (c .before .before .before .read-size .ensures) (c .before .field .given .1) in
-    (search needs, search needs, got-known e, sym (length-characters _ _) ∙ ap (λ m. length (valuesOf m)) e)
+is-sized-requires : tie.Need-is-sized-requires
+is-sized-requires c κs = search needs
+
+is-unknown-requires : tie.Need-is-unknown-requires
+is-unknown-requires c κs =
+    let e = size-got _ _ _ (c .before .before .before .before .before .last-size .ensures) (c .before .before .before .field .given .1) in
+    let b = c .before .before .before .before .before .before .before .before .before .before in
+    (b .pre .0, b .pre .1, got-known e, sym (length-characters _ _) ∙ ap (λ m. length (valuesOf m)) e, sized-few (b .args .plate .now) (b .args .at) _ _ (c .before .is-sized .ensures) (c .if1 .taken))
 
 returns-2 : tie.Need-returns-2
-unfolding spelled
 returns-2 c =
-    let e = size-got _ _ _ (c .before .before .before .before .before .read-size .ensures) (c .before .before .before .field .given .1) in
-    judged-got untilETX _ _ _ _ e (rw (sym (ap valuesOf e)) at (sym (c .before .is-good .ensures) ∙ c .if1 .taken))
+    spelled-got _ _ _ _ (c .before .before .before .is-sized .ensures) _ _ (size-got _ _ _ (c .before .before .before .before .before .before .before .last-size .ensures) (c .before .before .before .before .before .field .given .1))
+    (c .before .before .if1 .taken) (sym (c .before .is-unknown .ensures) ∙ c .if2 .taken)
 
 returns-3 : tie.Need-returns-3
-unfolding spelled
-returns-3 c =
-    let e = size-got _ _ _ (c .before .before .before .before .before .read-size .ensures) (c .before .before .before .field .given .1) in
-    judged-not untilETX _ _ _ _ e (rw (sym (ap valuesOf e)) at (sym (c .before .is-good .ensures) ∙ c .if1 .left))
+returns-3 c = spelled-phrase _ _ _ _ (size-got _ _ _ (c .before .before .before .before .before .before .before .last-size .ensures) (c .before .before .before .before .before .field .given .1)) (sym (c .before .is-unknown .ensures) ∙ c .if2 .left)
+
+returns-4 : tie.Need-returns-4
+returns-4 c = spelled-sized _ _ _ _ (c .before .is-sized .ensures) _ _ (size-got _ _ _ (c .before .before .before .before .before .last-size .ensures) (c .before .before .before .field .given .1)) (c .if1 .left)
 
 pub read-spelled-spec : {M : Type 1} → statement M
 read-spelled-spec =
     tie.close
     (tie.spec
-    read-size-requires
+    last-size-requires
     enum-known-field
     enum-told
     returns
-    is-good-requires
+    is-sized-requires
+    is-unknown-requires
     returns-2
-    returns-3)
+    returns-3
+    returns-4)

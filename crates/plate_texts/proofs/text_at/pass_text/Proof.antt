@@ -1,30 +1,46 @@
 -- `pass_text` meets its contract: the code, then characters or a phrase.
 use Prim.Native.Nat.{_+_}
-use mathlib.Core.Path.{_≡_, ap, _∙_}
+use mathlib.Core.Path.{_≡_, sym, ap, _∙_}
 use native.Mathlib.Omega.{arith}
+use lib.ListN.{length}
 use borrow.Author.Needs.{needs}
-use Rattle.phrases.specs.Lookup.{phrasesIn}
+use Rattle.phrases.specs.Lookup.{bookTexts, ownTexts, phrasesIn}
 use Rattle.causes.specs.declared.Cause.the-variants.{Unused}
 use Rattle.plate.specs.Reading.{number, judged}
-use Rattle.fields.specs.Places.{placeAt, fieldRead, refusalOf, sizeRead, endWith}
+use Rattle.fields.specs.Places.{placeAt, fieldRead, refusalOf, sizeRead, untilETX, valuesOf, endWith}
+use Rattle.plate.specs.Plate.{spelled, phrase}
 use Rattle.plate.specs.Plate as reader
-use Rattle.fields.proofs.Onward.{then-got, then-stopped}
+use Rattle.fields.proofs.Onward.{then-got, then-stopped, judged-stopped}
 use Rattle.fields.proofs.Answers.{answered, field-got, field-refused, size-got}
+use Rattle.fields.proofs.Copies.{length-characters}
+use Rattle.fields.proofs.TextCopy.{got-known}
+use Rattle.plate_texts.proofs.Behind.{judged-behind, judged-room}
 use Rattle.plate_texts.proofs.PhraseRead.{book-count}
+use Rattle.plate_texts.proofs.Spelled.{sized-few, none-there, spelled-got, spelled-sized, spelled-phrase}
 use Rattle.plate_texts.proofs.TextsRead.{text-code, some-phrase, by-spelled, by-phrase}
 use Rattle.plate_texts.proofs.text_at.pass_text.Statement.{statement}
 use Rattle.plate_texts.proofs.text_at.pass_text.Tie as tie
 
 -- the code, as the reader judges it
 code-read : (c : tie.After-read-code) →
-    let a = c .before .before .before .before .before .before .args in
+    let a = c .before .before .before .before .before .before .before .args in
     fieldRead (a .plate .now) (c .read-code .result)
     ≡ judged (number 2) (reader.isTextCode (phrasesIn (a .book .now) (a .own .now) (a .count))) Unused (placeAt (a .plate .now) (a .at))
 code-read c =
-    let b = c .before .before .before .before .before .before in
+    let b = c .before .before .before .before .before .before .before in
     c .read-code .ensures
-    ∙ text-code (phrasesIn (b .args .book .now) (b .args .own .now) (b .args .count)) (c .before .count-of .result + b .args .count) _ _
-    (omega (arith, c .before .count-of .ensures, book-count (b .pre), (b .pre) .whole))
+    ∙ text-code (phrasesIn (b .args .book .now) (b .args .own .now) (b .args .count)) (c .before .before .count-of .result + b .args .count) _ _
+    (omega (arith, c .before .before .count-of .ensures, book-count (b .pre), (b .pre) .whole))
+
+-- a text that is spelled out behind its code
+spelled-there : (c : tie.Else1) →
+    let a = c .before .before .before .before .before .before .before .before .before .before .before .args in
+    spelled (bookTexts (a .book .now)) (ownTexts (a .count) (a .own .now)) (placeAt (a .plate .now) (c .before .before .field .given .0 .1 .0))
+    ≡ reader.text (phrasesIn (a .book .now) (a .own .now) (a .count)) (placeAt (a .plate .now) (a .at))
+unfolding reader.text
+spelled-there c =
+    by-spelled _ _ _ (c .if1 .left)
+    ∙ then-got _ _ _ (field-got _ _ (code-read (c .before .before .before .before)) (c .before .before .field .given .1))
 
 count-of-requires : tie.Need-count-of-requires
 count-of-requires c κs = search needs
@@ -32,6 +48,9 @@ count-of-requires c κs = search needs
 add-n : tie.Need-add-n
 add-n c = let b = c .before .before .before .before .before in
     omega (arith, c .count-of .ensures, book-count (b .pre), b .pre .indexed .few, b .pre .few)
+
+read-ahead-requires : tie.Need-read-ahead-requires
+read-ahead-requires c κs = search needs
 
 read-code-requires : tie.Need-read-code-requires
 read-code-requires c κs = search needs
@@ -44,37 +63,69 @@ enum-told c = search needs
 
 returns : tie.Need-returns
 unfolding reader.text
-returns c = ap (fieldRead (c .before .before .before .before .before .before .before .before .args .plate .now)) (c .enum-told .given .1)
+returns c = ap (fieldRead (c .before .before .before .before .before .before .before .before .before .args .plate .now)) (c .enum-told .given .1)
     ∙ ap (endWith 0) (then-stopped _ _ _ (field-refused _ _ (code-read (c .before .before)) (c .enum-told .given .1)))
 
 pass-phrase-requires : tie.Need-pass-phrase-requires
-pass-phrase-requires c κs = let some = some-phrase _ _ _ _ (field-got _ _ (c .before .before .before .before .read-code .ensures) (c .before .before .field .given .1)) (c .if1 .taken) in
-    (search needs, omega (arith, some, c .before .before .before .before .before .count-of .ensures))
+pass-phrase-requires c κs =
+    let code = field-got _ _ (c .before .before .before .before .read-code .ensures) (c .before .before .field .given .1) in
+    let some = some-phrase _ _ _ _ code (c .if1 .taken) in
+    (search needs, omega (arith, some, c .before .before .before .before .before .before .count-of .ensures), c .before .before .before .before .before .read-ahead .ensures, omega (arith, judged-room _ _ _ _ _ _ _ code))
 
 returns-2 : tie.Need-returns-2
 unfolding reader.text
-returns-2 c = c .pass-phrase .ensures ∙ ap (endWith 0) (by-phrase _ _ _ (c .before .if1 .taken) ∙ then-got _ _ _ (field-got _ _ (code-read (c .before .before .before .before .before)) (c .before .before .before .field .given .1)))
+returns-2 c =
+    let code = field-got _ _ (code-read (c .before .before .before .before .before)) (c .before .before .before .field .given .1) in
+    c .pass-phrase .ensures
+    ∙ ap (endWith 0) (ap (phrase _ _) (sym (judged-behind _ _ _ _ _ _ _ code)) ∙ by-phrase _ _ _ (c .before .if1 .taken) ∙ then-got _ _ _ code)
 
-read-among-requires : tie.Need-read-among-requires
-read-among-requires c κs = let b = c .before .before .before .before .before .before .before .before .before .before in
-    (b .pre .short, b .pre .indexed, omega (arith, c .before .before .before .before .before .count-of .ensures))
+read-size-requires : tie.Need-read-size-requires
+read-size-requires c κs = search needs
 
-enum-known-spelled : tie.Need-enum-known-spelled
-enum-known-spelled c = search needs
+enum-known-characters : tie.Need-enum-known-characters
+enum-known-characters c = search needs
 
 enum-told-2 : tie.Need-enum-told-2
 enum-told-2 c = search needs
 
 returns-3 : tie.Need-returns-3
-unfolding reader.text
-returns-3 c = ap (fieldRead (c .before .before .before .before .before .before .before .before .before .before .before .before .before .args .plate .now)) (c .enum-told2 .given .1)
-    ∙ ap (endWith 0) (answered (sizeRead (c .before .before .before .before .before .before .before .before .before .before .before .before .before .args .plate .now) _) refusalOf (c .before .before .read-among .ensures) (c .enum-told2 .given .1)
-    ∙ by-spelled _ _ _ (c .before .before .before .if1 .left) ∙ then-got _ _ _ (field-got _ _ (code-read (c .before .before .before .before .before .before .before)) (c .before .before .before .before .before .field .given .1)))
+unfolding spelled
+returns-3 c =
+    let b = c .before .before .before .before .before .before .before .before .before .before .before .before .before .before in
+    ap (fieldRead (b .args .plate .now)) (c .enum-told2 .given .1)
+    ∙ ap (endWith 0) (judged-stopped untilETX _ _ _ _ (answered (sizeRead (b .args .plate .now) _) refusalOf (c .before .before .read-size .ensures) (c .enum-told2 .given .1))
+    ∙ spelled-there (c .before .before .before))
+
+is-sized-requires : tie.Need-is-sized-requires
+is-sized-requires c κs = search needs
 
 returns-4 : tie.Need-returns-4
-unfolding reader.text
-returns-4 c = ap (endWith 0) (size-got _ _ _ (c .before .before .before .read-among .ensures) (c .before .spelled .given .1)
-    ∙ by-spelled _ _ _ (c .before .before .before .before .if1 .left) ∙ then-got _ _ _ (field-got _ _ (code-read (c .before .before .before .before .before .before .before .before)) (c .before .before .before .before .before .before .field .given .1)))
+returns-4 c =
+    let b = c .before .before .before .before .before .before .before .before .before .before .before .before .before .before .before .before .before .before in
+    let none = none-there (b .args .index .now) _ (b .args .own .now) (b .args .count) _ (b .pre .indexed) (omega (arith, c .before .before .before .before .before .before .before .before .before .before .before .before .before .count-of .ensures)) in
+    ap (endWith 0) (spelled-got _ _ _ _ (c .before .before .is-sized .ensures) _ _ (size-got _ _ _ (c .before .before .before .before .before .before .read-size .ensures) (c .before .before .before .before .characters .given .1))
+    (c .before .if2 .taken) none ∙ spelled-there (c .before .before .before .before .before .before .before))
+
+is-unknown-requires : tie.Need-is-unknown-requires
+is-unknown-requires c κs =
+    let b = c .before .before .before .before .before .before .before .before .before .before .before .before .before .before .before .before .before .before in
+    let e = size-got _ _ _ (c .before .before .before .before .before .before .read-size .ensures) (c .before .before .before .before .characters .given .1) in
+    (b .pre .short, b .pre .indexed, got-known e, sym (length-characters _ _) ∙ ap (λ m. length (valuesOf m)) e, sized-few (b .args .plate .now) (b .args .at) _ _ (c .before .before .is-sized .ensures) (c .before .if2 .taken))
+
+returns-5 : tie.Need-returns-5
+returns-5 c =
+    ap (endWith 0) (spelled-got _ _ _ _ (c .before .before .before .before .is-sized .ensures) _ _ (size-got _ _ _ (c .before .before .before .before .before .before .before .before .read-size .ensures) (c .before .before .before .before .before .before .characters .given .1))
+    (c .before .before .before .if2 .taken) (sym (c .before .is-unknown .ensures) ∙ c .if4 .taken) ∙ spelled-there (c .before .before .before .before .before .before .before .before .before))
+
+returns-6 : tie.Need-returns-6
+returns-6 c =
+    ap (endWith 0) (spelled-phrase _ _ _ _ (size-got _ _ _ (c .before .before .before .before .before .before .before .before .read-size .ensures) (c .before .before .before .before .before .before .characters .given .1))
+    (sym (c .before .is-unknown .ensures) ∙ c .if4 .left) ∙ spelled-there (c .before .before .before .before .before .before .before .before .before))
+
+returns-7 : tie.Need-returns-7
+returns-7 c =
+    ap (endWith 0) (spelled-sized _ _ _ _ (c .before .is-sized .ensures) _ _ (size-got _ _ _ (c .before .before .before .before .before .read-size .ensures) (c .before .before .before .characters .given .1))
+    (c .if2 .left) ∙ spelled-there (c .before .before .before .before .before .before))
 
 pub pass-text-spec : {M : Type 1} → statement M
 pass-text-spec =
@@ -82,14 +133,20 @@ pass-text-spec =
     (tie.spec
     count-of-requires
     add-n
+    read-ahead-requires
     read-code-requires
     enum-known-field
     enum-told
     returns
     pass-phrase-requires
     returns-2
-    read-among-requires
-    enum-known-spelled
+    read-size-requires
+    enum-known-characters
     enum-told-2
     returns-3
-    returns-4)
+    is-sized-requires
+    returns-4
+    is-unknown-requires
+    returns-5
+    returns-6
+    returns-7)

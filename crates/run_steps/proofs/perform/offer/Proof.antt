@@ -2,14 +2,12 @@
 use mathlib.Core.Path.{refl, _∙_}
 use native.Mathlib.Omega.{arith}
 use Rattle.output.proofs.Pour.{then}
-use Rattle.phrases.specs.Lookup.{phrasesIn}
 use Rattle.transcript.proofs.Offers.{write-offered}
-use Rattle.plate.specs.Plate as reader
-use Rattle.fields.specs.Places.{placeAt}
 use Rattle.statements.proofs.Performs.{lay-offered}
 use Rattle.instructions.specs.declared.Head.the-variants.{Inputs}
+use Rattle.instructions.proofs.Counted.{options-end, options-count}
 use Rattle.instructions.proofs.Headed.{inputs-text, inputs-options, inputs-is, inputs-end}
-use Rattle.run_steps.proofs.Performing.{lay-statement, over-statement, count-end, count-length}
+use Rattle.run_steps.proofs.Performing.{lay-statement, over-statement}
 use borrow.Author.Needs.{needs}
 use Rattle.run_steps.proofs.perform.offer.Statement.{statement}
 use Rattle.run_steps.proofs.perform.offer.Tie as tie
@@ -40,13 +38,11 @@ same-length c = search needs
 
 returns : tie.Need-returns
 returns c =
-    let a = c .before .before .before .before .before .before .before .before .before .before .before .before .before .before .before .before .before .before .before .before .before .before .before .before .before .before .before .args in
-    let options = reader.options (phrasesIn (a .book .now) (a .own .now) (a .count)) (placeAt (a .plate .now) (c .before .before .before .before .before .before .before .before .before .before .before .before .before .before .before .copy-text .result .next)) in
     let end = c .before .before .before .before .before .before .before .before .before .before .before .before .before .before .before .copy-text .ensures .1 in
     let is = inputs-is _ _ (Inputs _ _) refl (c .before .before .before .before .before .before .before .before .before .before .before .before .before .before .before .before .before .before .before .before .before .before .before .before .before .before .before .pre .2) refl end in
     let question = then _ _ _ _ _ _ _ (c .before .before .before .before .before .before .before .before .before .before .before .before .before .before .before .before .before .before .before .put .ensures) (c .before .before .before .before .before .before .before .before .before .before .before .before .before .before .before .copy-text .ensures .0) (omega (arith, c .before .before .before .before .before .before .before .before .before .before .before .before .before .before .before .before .before .before .before .before .before .before .before .before .before .before .before .good)) in
     let line = write-offered _ _ _ _ _ _ _ _ _ question (c .before .before .before .before .before .before .before .before .before .before .before .copy-options .ensures .0) (c .before .before .before .before .before .before .before .put-byte .ensures) (omega (arith, c .before .before .before .before .before .before .before .before .before .before .before .before .before .before .before .before .before .before .before .before .before .before .before .before .before .before .before .good)) in
-    (lay-statement is _ _ _ _ (lay-offered _ _ _ _ _ _ _ _ _ _ _ _ line (c .before .before .choose .ensures .0) (count-length options (c .before .before .before .before .before .before .before .before .before .before .before .copy-options .ensures .1)) (omega (arith, c .before .before .before .before .before .before .before .before .before .before .before .before .before .before .before .before .before .before .before .before .before .before .before .before .before .before .before .good))), ((λ s. over-statement is s, c .before .before .choose .ensures .1 .0), count-end options (c .before .before .before .before .before .before .before .before .before .before .before .copy-options .ensures .1) ∙ inputs-end _ _ (Inputs _ _) refl refl end))
+    (lay-statement is _ _ _ _ (lay-offered _ _ _ _ _ _ _ _ _ _ _ _ line (c .before .before .choose .ensures .0) (options-count _ _ (c .before .before .before .before .before .before .before .before .before .before .before .copy-options .ensures .1)) (omega (arith, c .before .before .before .before .before .before .before .before .before .before .before .before .before .before .before .before .before .before .before .before .before .before .before .before .before .before .before .good))), ((λ s. over-statement is s, c .before .before .choose .ensures .1 .0), options-end _ _ (c .before .before .before .before .before .before .before .before .before .before .before .copy-options .ensures .1) ∙ inputs-end _ _ (Inputs _ _) refl refl end))
 
 pub offer-spec : {M : Type 1} → statement M
 offer-spec =

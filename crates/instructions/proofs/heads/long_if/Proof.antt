@@ -1,7 +1,6 @@
--- `if_head` meets its contract: the test, then the skip, which is good where the instruction is.
+-- `long_if` meets its contract: the test, then the skip, which is good where the instruction is.
 use mathlib.Core.Path.{_∙_}
 use native.Mathlib.Omega.{arith}
-use Rattle.instructions.specs.Heads.{headed}
 use Rattle.plate.specs.Reading.{return}
 use Rattle.fields.specs.Places.{testRead, testRefusal}
 use Rattle.plate.proofs.Readers.{gives-number}
@@ -11,8 +10,8 @@ use Rattle.fields.proofs.Answers.{answered, field-got, field-refused, test-got}
 use Rattle.plate_texts.proofs.Known.{known-first, known-then}
 use Rattle.instructions.proofs.HeadRead.{skip-read}
 use borrow.Author.Needs.{needs}
-use Rattle.instructions.proofs.heads.if_head.Statement.{statement}
-use Rattle.instructions.proofs.heads.if_head.Tie as tie
+use Rattle.instructions.proofs.heads.long_if.Statement.{statement}
+use Rattle.instructions.proofs.heads.long_if.Tie as tie
 
 read-test-requires : tie.Need-read-test-requires
 read-test-requires c κs = search needs
@@ -39,19 +38,19 @@ returns-2 : tie.Need-returns-2
 returns-2 c = let t = test-got _ _ (c .before .before .before .before .before .before .read-test .ensures) (c .before .before .before .before .first .given .1) in (
   λ ph behind w. let k = known-first _ _ _ (known-then _ _ _ w t) in
       absurd (k .good (field-refused _ _ (c .before .before .read-plain .ensures) (c .enum-told2 .given .1) ∙ skip-read _ _ _ k)),
-  search needs,
+  (got-good _ gives-test t .0, search needs),
 )
 
 returns-3 : tie.Need-returns-3
-unfolding headed return
+unfolding return
 returns-3 c = let t = test-got _ _ (c .before .before .before .before .before .before .before .read-test .ensures) (c .before .before .before .before .before .first .given .1) in
     let e = field-got _ _ (c .before .before .before .read-plain .ensures) (c .before .second .given .1) in (
       λ ph behind w. then-got _ _ _ (e ∙ skip-read _ _ _ (known-first _ _ _ (known-then _ _ _ w t))) ∙ then-got _ _ _ t,
       (got-good _ gives-test t .0, omega (arith, got-good _ (gives-number 9) e)),
     )
 
-pub if-head-spec : {M : Type 1} → statement M
-if-head-spec =
+pub long-if-spec : {M : Type 1} → statement M
+long-if-spec =
     tie.close
     (tie.spec
     read-test-requires

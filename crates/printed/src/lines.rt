@@ -9,7 +9,7 @@ ghost use Rattle.output.specs.Pour.{poured};
 ghost use Rattle.printed.specs.Lines.{plateLine, refusedLine, reportLine};
 
 // A number behind its label.
-fn put_labelled(out: &mut [u8], at: usize, label: &[u8], v: usize) -> usize
+pub fn put_labelled(out: &mut [u8], at: usize, label: &[u8], v: usize) -> usize
     ensures { λ r. ⌜ (r, now (out .exit)) ≡ poured at (now (label .entry) ++ decimalℕ v) (now (out .entry)) ⌝ }
 {
     let end = text_out::put(out, at, label);

@@ -1,3 +1,4 @@
 pub mod Places
 pub mod Signs
 pub mod Content
+pub mod Checksums

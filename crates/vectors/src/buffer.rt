@@ -1,12 +1,11 @@
 // A lent buffer: its content before a call, and how it is written after.
 ghost use mathlib.Core.Path.{_≡_};
-ghost use Prim.Native.Nat.{_<_};
+ghost use Prim.Native.Nat.{_<_, _≤_, _*_};
 ghost use lib.ListN.{length};
 ghost use Rattle.io.specs.Counts.{Counts};
+ghost use Rattle.output.specs.Pour.{poured};
 ghost use Rattle.vectors.specs.Input.{content, lentOf};
-use crate::write::write_comma;
-use crate::write::write_hex;
-use libc::STDOUT_FILENO;
+ghost use Rattle.vectors.specs.Sums.{sumOf, bufferText};
 
 // How many bytes of `space` are lent: as many as a case says, at most all. Callers lend them by the second clause.
 pub fn lent(space: &[u8], length: usize) -> usize
@@ -31,42 +30,29 @@ pub fn fill(out: &mut [u8])
     }
 }
 
-// The first checksum with one more byte.
-fn first_with(sum: u64, b: u8) -> u64
-    requires { ⌜ sum < 2147483647 ⌝ }
-    ensures { λ r. ⌜ r < 2147483647 ⌝ }
+// A checksum of the bytes. The sum so far stays below the modulus.
+fn sum(bytes: &[u8], factor: usize, modulus: usize) -> usize
+    requires { ⌜ 0 < modulus ⌝ }
+    requires { ⌜ modulus * factor ≤ 18446744073709551359 ⌝ }
+    ensures { λ r. ⌜ r ≡ sumOf factor modulus (now (bytes .entry)) ⌝ }
 {
-    (sum * 48271 + b as u64 + 1) % 2147483647
-}
-
-// The second checksum with one more byte.
-fn second_with(sum: u64, b: u8) -> u64
-    requires { ⌜ sum < 4294967291 ⌝ }
-    ensures { λ r. ⌜ r < 4294967291 ⌝ }
-{
-    (sum * 69643 + b as u64 + 1) % 4294967291
-}
-
-// The two checksums of the bytes, with a comma between.
-fn write_sums(bytes: &[u8]) {
-    let mut first = 0;
-    let mut second = 0;
+    let mut sum = 0;
     let mut i = 0;
     while i < bytes.len() {
-        first = first_with(first, bytes[i]);
-        second = second_with(second, bytes[i]);
+        sum = (sum * factor + bytes[i] as usize + 1) % modulus;
         i += 1;
     }
-    io::print_decimal(STDOUT_FILENO, first);
-    write_comma();
-    io::print_decimal(STDOUT_FILENO, second);
+    sum
 }
 
 // The whole of a lent buffer after a call: up to 64 bytes in full, more by their checksums.
-pub fn write_buffer(bytes: &[u8]) {
+pub fn put_buffer(out: &mut [u8], at: usize, bytes: &[u8]) -> usize
+    ensures { λ r. ⌜ (r, now (out .exit)) ≡ poured at (bufferText (now (bytes .entry))) (now (out .entry)) ⌝ }
+{
     if bytes.len() <= 64 {
-        write_hex(bytes);
-    } else {
-        write_sums(bytes);
+        return printed::put_pairs(out, at, bytes);
     }
+    let end = text_out::put_natural(out, at, sum(bytes, 48271, 2147483647));
+    let end = text_out::put_byte(out, end, b',');
+    text_out::put_natural(out, end, sum(bytes, 69643, 4294967291))
 }

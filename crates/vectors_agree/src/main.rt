@@ -4,6 +4,8 @@
 use causes::Ran;
 use causes::Report;
 use causes::Written;
+use libc::STDOUT_FILENO;
+use printed::front;
 
 // Whether two reports are the same.
 fn same_report(a: Report, b: Report) -> bool {
@@ -42,36 +44,43 @@ fn same_answer(a: Ran, b: Ran) -> bool {
     }
 }
 
-// The walk's line where the run gave the same.
-fn compare(walked: Ran, transcript: &[u8], ran: Ran, other: &[u8]) {
+// The walk's line where the run gave the same. This and the function below fill the line, and answer where it ends.
+fn compare(line: &mut [u8], walked: Ran, transcript: &[u8], ran: Ran, other: &[u8]) -> usize {
     if same_answer(walked, ran) {
         if text::same(transcript, other) {
-            vectors_calls::write_ran(walked, transcript);
-            return;
+            return vectors_calls::put_ran(line, 0, walked, transcript);
         }
     }
-    io::write_all(libc::STDOUT_FILENO, b"D\n");
+    text_out::put(line, 0, b"D\n")
 }
 
 // The guide translated and run, and walked, on one case, whose two lent outputs have the same content.
-fn call(guide: &[u8], book: &[u8], answers: &[i32], first: &mut [u8], second: &mut [u8]) {
+fn call(
+    line: &mut [u8],
+    guide: &[u8],
+    book: &[u8],
+    answers: &[i32],
+    first: &mut [u8],
+    second: &mut [u8],
+) -> usize {
     let mut plate = [0u8; 2953];
     let mut scratch = [0u16; 512];
     if let Written::Refused(r) = translate::translate(guide, book, &mut plate) {
-        vectors_calls::write_written(Written::Refused(r), &[]);
-        return;
+        return vectors_calls::put_written(line, 0, Written::Refused(r), &[]);
     }
     let walked = walk::walk(guide, book, answers, first);
     let ran = agreement::translate_and_run(guide, book, &mut plate, answers, &mut scratch, second);
-    compare(walked, first, ran, second);
+    compare(line, walked, first, ran, second)
 }
 
-// The same with a second output as long as the first, and with its content.
+// The same with a second output as long as the first, and with its content; and the line, which has fewer than 256 bytes.
 fn twice(guide: &[u8], book: &[u8], answers: &[i32], first: &mut [u8], other: &mut [u8]) {
     let lent = vectors::lent(other, first.len());
     let second = &mut other[..lent];
     vectors::fill(second);
-    call(guide, book, answers, first, second);
+    let mut line = [0; 256];
+    let end = call(&mut line, guide, book, answers, first, second);
+    io::write_all(STDOUT_FILENO, front(&line, end));
 }
 
 // One case, if there is one more.

@@ -17,5 +17,5 @@ pub use space::book_space;
 pub use space::input_space;
 pub use space::lent_space;
 pub use space::scratch_space;
-pub use write::write_ran;
-pub use write::write_written;
+pub use write::put_ran;
+pub use write::put_written;

@@ -2,107 +2,131 @@
 // phrase, and the width of a place. Writes a line for each case; model/README.md has the format. A lookup in a
 // bad book is answered with the book's first bad line.
 ghost use Rattle.phrases.specs.Index.{Indexed};
+use libc::STDIN_FILENO;
+use libc::STDOUT_FILENO;
 use phrases::Book;
 use phrases::Found;
+use phrases::phrase_text;
+use printed::front;
+use printed::put_labelled;
+use printed::put_pairs;
 
-// A number behind Y or N.
-fn numbered(yes: bool, number: usize) {
-    vectors::write_yes(yes);
-    vectors::write_comma();
-    vectors::write_natural(number);
-}
-
-// The check of a book. This and the functions below return the place behind the case.
-fn check(s: &[u8], at: usize) -> usize {
+// The check of a book. This and the functions below fill the line, and answer where it ends, without LF.
+fn check(line: &mut [u8], s: &[u8], at: usize) -> usize {
     let mut index = [0u32; 385];
     match phrases::check_book(vectors::slice(s, at), &mut index) {
-        Book::Holds(count) => numbered(true, count),
-        Book::Bad(line) => numbered(false, line),
+        Book::Holds(count) => put_labelled(line, 0, b"Y,", count),
+        Book::Bad(bad) => put_labelled(line, 0, b"N,", bad),
     }
-    vectors::past_slice(s, at)
 }
 
 // A list's number and a place in it.
-fn place(list: usize, place: usize) {
-    numbered(true, list);
-    vectors::write_comma();
-    vectors::write_natural(place);
+fn place(line: &mut [u8], list: usize, place: usize) -> usize {
+    let end = put_labelled(line, 0, b"Y,", list);
+    put_labelled(line, end, b",", place)
 }
 
 // Where a text is a phrase.
-fn find(s: &[u8], at: usize) -> usize {
+fn find(line: &mut [u8], s: &[u8], at: usize) -> usize {
     let mut index = [0u32; 385];
     let second = vectors::past_slice(s, at);
     let third = vectors::past_slice(s, second);
-    let last = vectors::past(third, 8);
     let book = vectors::slice(s, at);
     match phrases::check_book(book, &mut index) {
-        Book::Bad(line) => numbered(false, line),
+        Book::Bad(bad) => put_labelled(line, 0, b"N,", bad),
         Book::Holds(_) => match phrases::find_phrase(
             &index,
             book,
             vectors::slice(s, second),
             vectors::long_number(s, third),
-            vectors::slice(s, last),
+            vectors::slice(s, vectors::past(third, 8)),
         ) {
-            Found::InBook(i) => place(0, i),
-            Found::InOwn(i) => place(1, i),
-            Found::Nowhere => vectors::write_yes(false),
+            Found::InBook(i) => place(line, 0, i),
+            Found::InOwn(i) => place(line, 1, i),
+            Found::Nowhere => text_out::put_byte(line, 0, b'N'),
         },
     }
-    vectors::past_slice(s, last)
 }
 
-// The text of the phrase at a place; of none, nothing.
-fn text_at<'a>(index: &'a [u32], book: &'a [u8], own: &'a [u8], is_own: bool, i: usize)
+// The text of a phrase by its place, where the book or the own phrases have one there.
+fn text_at<'a>(
+    line: &mut [u8],
+    index: &'a [u32],
+    book: &'a [u8],
+    own: &'a [u8],
+    is_own: bool,
+    i: usize,
+) -> usize
     requires { ⌜ Indexed (now index) (now book) ⌝ }
 {
-    if is_own || i < phrases::count_of(index) {
-        vectors::write_hex(phrases::phrase_text(index, book, own, is_own, i));
+    if is_own {
+        return put_pairs(line, 0, phrase_text(index, book, own, true, i));
     }
+    if i < phrases::count_of(index) {
+        return put_pairs(line, 0, phrase_text(index, book, own, false, i));
+    }
+    0
 }
 
-// The text of a phrase.
-fn text(s: &[u8], at: usize) -> usize {
+// The text of a phrase, empty where the book has none at the place.
+fn text(line: &mut [u8], s: &[u8], at: usize) -> usize {
     let mut index = [0u32; 385];
     let second = vectors::past_slice(s, at);
     let third = vectors::past_slice(s, second);
     let is_own = vectors::number(s, third) == 1;
     let i = vectors::long_number(s, vectors::past(third, 4));
     let book = vectors::slice(s, at);
+    let own = vectors::slice(s, second);
     match phrases::check_book(book, &mut index) {
-        Book::Bad(line) => numbered(false, line),
-        Book::Holds(_) => text_at(&index, book, vectors::slice(s, second), is_own, i),
+        Book::Bad(bad) => put_labelled(line, 0, b"N,", bad),
+        Book::Holds(_) => text_at(line, &index, book, own, is_own, i),
     }
-    vectors::past(third, 12)
 }
 
 // The width of a place, among at most 65,536 phrases.
-fn width(s: &[u8], at: usize) -> usize {
+fn width(line: &mut [u8], s: &[u8], at: usize) -> usize {
     let count = vectors::number(s, at);
-    if count <= 65536 {
-        vectors::write_natural(phrases::width_of(count));
+    if 65536 < count {
+        return 0;
     }
-    vectors::past(at, 4)
+    text_out::put_natural(line, 0, phrases::width_of(count))
 }
 
-// One case, by its first number, without the line's end.
-fn case(s: &[u8], at: usize) -> usize {
-    let first = vectors::past(at, 4);
-    match vectors::number(s, at) {
-        0 => check(s, first),
-        1 => find(s, first),
-        2 => text(s, first),
-        _ => width(s, first),
+// One case, by its kind.
+fn case(line: &mut [u8], s: &[u8], kind: usize, at: usize) -> usize {
+    match kind {
+        0 => check(line, s, at),
+        1 => find(line, s, at),
+        2 => text(line, s, at),
+        _ => width(line, s, at),
+    }
+}
+
+// The place behind the two slices of a case.
+fn past_two(s: &[u8], at: usize) -> usize {
+    vectors::past_slice(s, vectors::past_slice(s, at))
+}
+
+// The place behind a case.
+fn behind(s: &[u8], kind: usize, at: usize) -> usize {
+    match kind {
+        0 => vectors::past_slice(s, at),
+        1 => vectors::past_slice(s, vectors::past(past_two(s, at), 8)),
+        2 => vectors::past(past_two(s, at), 12),
+        _ => vectors::past(at, 4),
     }
 }
 
 // All cases, up to the end of what was read.
-fn cases(s: &[u8]) {
+fn cases(s: &[u8], line: &mut [u8]) {
     let mut at = 0;
     while at < s.len() {
-        let next = case(s, at);
-        vectors::write_end();
+        let kind = vectors::number(s, at);
+        let first = vectors::past(at, 4);
+        let end = case(line, s, kind, first);
+        let end = text_out::put_byte(line, end, b'\n');
+        io::write_all(STDOUT_FILENO, front(line, end));
+        let next = behind(s, kind, first);
         if next <= at {
             return;
         }
@@ -110,8 +134,10 @@ fn cases(s: &[u8]) {
     }
 }
 
+// The longest line has 129 bytes. A longer one than the buffer would be cut off, and differ.
 fn main() {
     let mut input = vectors::input();
-    let count = io::read_full(0, &mut input);
-    cases(&input[..count]);
+    let mut line = io::large_buffer();
+    let count = io::read_full(STDIN_FILENO, &mut input);
+    cases(&input[..count], &mut line);
 }

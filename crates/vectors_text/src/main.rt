@@ -1,192 +1,167 @@
 // Tries the crate text on the cases of its standard input: texts, parts of a text, and decimal numbers read and written.
 // Writes a line for each case; model/README.md has the format.
-ghost use mathlib.Core.Path.{_≡_};
-ghost use Rattle.vectors.specs.Input.{onward, sliceEnd};
 use decimals::Constant;
 use decimals::Natural;
+use libc::STDIN_FILENO;
+use libc::STDOUT_FILENO;
+use printed::front;
 
-// Whether the bytes are allowed, and whether they are a text. This and the readers below write a line, and return the place behind the
-// case.
-fn read_text(s: &[u8], at: usize) -> usize
-    ensures { λ r. ⌜ r ≡ sliceEnd (now (s .entry)) at ⌝ }
-{
-    let bytes = vectors::slice(s, at);
-    vectors::write_yes(text::are_allowed(bytes));
-    vectors::write_comma();
-    vectors::write_yes(text::is_text(bytes));
-    vectors::write_end();
-    vectors::past_slice(s, at)
+// Y or N.
+fn letter(yes: bool) -> u8 {
+    if yes { b'Y' } else { b'N' }
 }
 
-// The parts from the first to the one behind the last, each behind a comma.
-fn each_part(bytes: &[u8], by: u8, count: usize) {
+// Y or N as a line. This and the functions below fill the line, and answer where it ends.
+fn put_yes(line: &mut [u8], yes: bool) -> usize {
+    let end = text_out::put_byte(line, 0, letter(yes));
+    text_out::put_byte(line, end, b'\n')
+}
+
+// Whether the bytes are allowed, and whether they are a text.
+fn read_text(line: &mut [u8], s: &[u8], at: usize) -> usize {
+    let bytes = vectors::slice(s, at);
+    let end = text_out::put_byte(line, 0, letter(text::are_allowed(bytes)));
+    let end = text_out::put_byte(line, end, b',');
+    let end = text_out::put_byte(line, end, letter(text::is_text(bytes)));
+    text_out::put_byte(line, end, b'\n')
+}
+
+// A part behind a comma.
+fn put_part(line: &mut [u8], at: usize, part: &[u8]) -> usize {
+    let end = text_out::put_byte(line, at, b',');
+    printed::put_pairs(line, end, part)
+}
+
+// The parts from the first to the one behind the last, from a place of the line on.
+fn each_part(line: &mut [u8], at: usize, bytes: &[u8], by: u8, count: usize) -> usize {
+    let mut end = at;
     let mut k = 0;
     while k < count {
-        vectors::write_comma();
-        vectors::write_hex(text::part(bytes, by, k));
+        end = put_part(line, end, text::part(bytes, by, k));
         k += 1;
     }
-    vectors::write_comma();
-    vectors::write_hex(text::part(bytes, by, count));
+    put_part(line, end, text::part(bytes, by, count))
 }
 
 // How many parts there are, and the parts.
-fn read_parts(s: &[u8], at: usize) -> usize
-    ensures { λ r. ⌜ r ≡ sliceEnd (now (s .entry)) (onward at 4) ⌝ }
-{
+fn read_parts(line: &mut [u8], s: &[u8], at: usize) -> usize {
     let by = vectors::byte(s, at);
-    let first = vectors::past(at, 4);
-    let bytes = vectors::slice(s, first);
+    let bytes = vectors::slice(s, vectors::past(at, 4));
     let count = text::count_parts(bytes, by);
-    vectors::write_natural(count);
-    each_part(bytes, by, count);
-    vectors::write_end();
-    vectors::past_slice(s, first)
+    let end = text_out::put_natural(line, 0, count);
+    let end = each_part(line, end, bytes, by, count);
+    text_out::put_byte(line, end, b'\n')
 }
 
 // Whether the fields from one on are texts.
-fn read_texts(s: &[u8], at: usize) -> usize
-    ensures { λ r. ⌜ r ≡ sliceEnd (now (s .entry)) (onward at 8) ⌝ }
-{
+fn read_texts(line: &mut [u8], s: &[u8], at: usize) -> usize {
     let from = vectors::long_number(s, at);
-    let first = vectors::past(at, 8);
-    vectors::write_yes(text::are_texts(vectors::slice(s, first), from));
-    vectors::write_end();
-    vectors::past_slice(s, first)
+    let bytes = vectors::slice(s, vectors::past(at, 8));
+    put_yes(line, text::are_texts(bytes, from))
 }
 
 // A number up to a limit.
-fn read_natural(s: &[u8], at: usize) -> usize
-    ensures { λ r. ⌜ r ≡ sliceEnd (now (s .entry)) (onward at 4) ⌝ }
-{
+fn read_natural(line: &mut [u8], s: &[u8], at: usize) -> usize {
     let limit = vectors::number(s, at) as u32;
-    let first = vectors::past(at, 4);
-    match decimals::read_natural(vectors::slice(s, first), limit) {
-        Natural::Is(value) => {
-            vectors::write_yes(true);
-            vectors::write_comma();
-            vectors::write_natural(value as usize);
-        }
-        Natural::Wrong => vectors::write_yes(false),
-    }
-    vectors::write_end();
-    vectors::past_slice(s, first)
+    let bytes = vectors::slice(s, vectors::past(at, 4));
+    let Natural::Is(value) = decimals::read_natural(bytes, limit) else {
+        return put_yes(line, false);
+    };
+    let end = printed::put_labelled(line, 0, b"Y,", value as usize);
+    text_out::put_byte(line, end, b'\n')
 }
 
 // A constant.
-fn read_constant(s: &[u8], at: usize) -> usize
-    ensures { λ r. ⌜ r ≡ sliceEnd (now (s .entry)) at ⌝ }
-{
-    match decimals::read_constant(vectors::slice(s, at)) {
-        Constant::Is(value) => {
-            vectors::write_yes(true);
-            vectors::write_comma();
-            vectors::write_signed(value);
-        }
-        Constant::Wrong => vectors::write_yes(false),
-    }
-    vectors::write_end();
-    vectors::past_slice(s, at)
+fn read_constant(line: &mut [u8], s: &[u8], at: usize) -> usize {
+    let Constant::Is(value) = decimals::read_constant(vectors::slice(s, at)) else {
+        return put_yes(line, false);
+    };
+    let end = text_out::put(line, 0, b"Y,");
+    let end = text_out::put_number(line, end, value);
+    text_out::put_byte(line, end, b'\n')
 }
 
 // Whether two slices hold the same bytes.
-fn read_same(s: &[u8], at: usize) -> usize
-    ensures { λ r. ⌜ r ≡ sliceEnd (now (s .entry)) (sliceEnd (now (s .entry)) at) ⌝ }
-{
+fn read_same(line: &mut [u8], s: &[u8], at: usize) -> usize {
     let one = vectors::slice(s, at);
-    let second = vectors::past_slice(s, at);
-    vectors::write_yes(text::same(one, vectors::slice(s, second)));
-    vectors::write_end();
-    vectors::past_slice(s, second)
+    let other = vectors::slice(s, vectors::past_slice(s, at));
+    put_yes(line, text::same(one, other))
 }
 
 // The first place of a byte from a place on, which is at most the length.
-fn read_find(s: &[u8], at: usize) -> usize
-    ensures { λ r. ⌜ r ≡ sliceEnd (now (s .entry)) (onward at 12) ⌝ }
-{
+fn read_find(line: &mut [u8], s: &[u8], at: usize) -> usize {
     let from = vectors::long_number(s, at);
     let byte = vectors::byte(s, vectors::past(at, 8));
-    let first = vectors::past(at, 12);
-    let bytes = vectors::slice(s, first);
-    if from <= bytes.len() {
-        vectors::write_natural(text::find(bytes, from, byte));
-        vectors::write_end();
+    let bytes = vectors::slice(s, vectors::past(at, 12));
+    if bytes.len() < from {
+        return 0;
     }
-    vectors::past_slice(s, first)
+    let end = text_out::put_natural(line, 0, text::find(bytes, from, byte));
+    text_out::put_byte(line, end, b'\n')
 }
 
 // The line of a writer: the place behind what it wrote, and the whole lent buffer.
-fn put_line(place: usize, out: &[u8]) {
-    vectors::write_natural(place);
-    vectors::write_comma();
-    vectors::write_buffer(out);
-    vectors::write_end();
+fn put_line(line: &mut [u8], place: usize, out: &[u8]) -> usize {
+    let end = text_out::put_natural(line, 0, place);
+    let end = text_out::put_byte(line, end, b',');
+    let end = vectors::put_buffer(line, end, out);
+    text_out::put_byte(line, end, b'\n')
 }
 
-// A number from 0 on. This and the writers below fill the lent buffer, write into it, and return the place behind the case.
-fn put_natural(s: &[u8], at: usize, out: &mut [u8], place: usize) -> usize
-    ensures { λ r. ⌜ r ≡ onward at 4 ⌝ }
-{
-    vectors::fill(out);
-    let end = text_out::put_natural(out, place, vectors::number(s, at));
-    put_line(end, out);
-    vectors::past(at, 4)
+// A number from 0 on, a number with its sign, or bytes, by the kind of a case, written into the lent buffer.
+fn put_value(s: &[u8], kind: usize, at: usize, out: &mut [u8], place: usize) -> usize {
+    match kind {
+        5 => text_out::put_natural(out, place, vectors::number(s, at)),
+        6 => text_out::put_number(out, place, vectors::signed(s, at)),
+        _ => text_out::put(out, place, vectors::slice(s, at)),
+    }
 }
 
-// A number with its sign.
-fn put_number(s: &[u8], at: usize, out: &mut [u8], place: usize) -> usize
-    ensures { λ r. ⌜ r ≡ onward at 4 ⌝ }
-{
-    vectors::fill(out);
-    let end = text_out::put_number(out, place, vectors::signed(s, at));
-    put_line(end, out);
-    vectors::past(at, 4)
-}
-
-// Bytes.
-fn put_bytes(s: &[u8], at: usize, out: &mut [u8], place: usize) -> usize
-    ensures { λ r. ⌜ r ≡ sliceEnd (now (s .entry)) at ⌝ }
-{
-    vectors::fill(out);
-    let end = text_out::put(out, place, vectors::slice(s, at));
-    put_line(end, out);
-    vectors::past_slice(s, at)
-}
-
-// One case of a writer, by its kind.
-fn put_case(s: &[u8], at: usize, kind: usize, space: &mut [u8]) -> usize {
+// A case that writes, into the bytes of `space` that it lends.
+fn put_case(line: &mut [u8], s: &[u8], kind: usize, at: usize, space: &mut [u8]) -> usize {
     let length = vectors::lent(space, vectors::number(s, at));
     let place = vectors::long_number(s, vectors::past(at, 4));
-    let first = vectors::past(at, 12);
-    if kind == 5 {
-        return put_natural(s, first, &mut space[..length], place);
-    }
-    if kind == 6 {
-        return put_number(s, first, &mut space[..length], place);
-    }
-    put_bytes(s, first, &mut space[..length], place)
+    let out = &mut space[..length];
+    vectors::fill(out);
+    let behind = put_value(s, kind, vectors::past(at, 12), out, place);
+    put_line(line, behind, out)
 }
 
-// One case, by its first number: kinds 5, 6 and 7 write into a buffer. Returns the place behind it.
-fn case(s: &[u8], at: usize, space: &mut [u8]) -> usize {
-    let first = vectors::past(at, 4);
-    match vectors::number(s, at) {
-        0 => read_text(s, first),
-        1 => read_parts(s, first),
-        2 => read_texts(s, first),
-        3 => read_natural(s, first),
-        4 => read_constant(s, first),
-        8 => read_same(s, first),
-        9 => read_find(s, first),
-        kind => put_case(s, first, kind, space),
+// One case, by its kind: kinds 5, 6 and 7 write into a buffer.
+fn case(line: &mut [u8], s: &[u8], kind: usize, at: usize, space: &mut [u8]) -> usize {
+    match kind {
+        0 => read_text(line, s, at),
+        1 => read_parts(line, s, at),
+        2 => read_texts(line, s, at),
+        3 => read_natural(line, s, at),
+        4 => read_constant(line, s, at),
+        8 => read_same(line, s, at),
+        9 => read_find(line, s, at),
+        _ => put_case(line, s, kind, at, space),
+    }
+}
+
+// The place behind a case.
+fn behind(s: &[u8], kind: usize, at: usize) -> usize {
+    match kind {
+        0 | 4 => vectors::past_slice(s, at),
+        1 | 3 => vectors::past_slice(s, vectors::past(at, 4)),
+        2 => vectors::past_slice(s, vectors::past(at, 8)),
+        5 | 6 => vectors::past(at, 16),
+        8 => vectors::past_slice(s, vectors::past_slice(s, at)),
+        _ => vectors::past_slice(s, vectors::past(at, 12)),
     }
 }
 
 // All cases, up to the end of what was read.
-fn cases(s: &[u8], space: &mut [u8]) {
+fn cases(s: &[u8], space: &mut [u8], line: &mut [u8]) {
     let mut at = 0;
     while at < s.len() {
-        let next = case(s, at, space);
+        let kind = vectors::number(s, at);
+        let first = vectors::past(at, 4);
+        let end = case(line, s, kind, first, space);
+        io::write_all(STDOUT_FILENO, front(line, end));
+        let next = behind(s, kind, first);
         if next <= at {
             return;
         }
@@ -194,9 +169,11 @@ fn cases(s: &[u8], space: &mut [u8]) {
     }
 }
 
+// The longest line has 150 bytes. A longer one than the buffer would be cut off, and differ.
 fn main() {
     let mut input = vectors::input();
     let mut space = io::buffer();
-    let count = io::read_full(0, &mut input);
-    cases(&input[..count], &mut space);
+    let mut line = io::large_buffer();
+    let count = io::read_full(STDIN_FILENO, &mut input);
+    cases(&input[..count], &mut space, &mut line);
 }

@@ -9,9 +9,6 @@ past-slice-requires c κs = search needs
 past-slice-requires-2 : tie.Need-past-slice-requires-2
 past-slice-requires-2 c κs = search needs
 
-past-requires : tie.Need-past-requires
-past-requires c κs = search needs
-
 slice-requires : tie.Need-slice-requires
 slice-requires c κs = search needs
 
@@ -21,11 +18,14 @@ slice-aggregate-check-book c = search needs
 check-book-requires : tie.Need-check-book-requires
 check-book-requires c κs = search needs
 
-enum-known-line : tie.Need-enum-known-line
-enum-known-line c = search needs
+enum-known-bad : tie.Need-enum-known-bad
+enum-known-bad c = search needs
 
-numbered-requires : tie.Need-numbered-requires
-numbered-requires c κs = search needs
+slice-aggregate-put-labelled : tie.Need-slice-aggregate-put-labelled
+slice-aggregate-put-labelled c = search needs
+
+put-labelled-requires : tie.Need-put-labelled-requires
+put-labelled-requires c κs = search needs
 
 enum-told : tie.Need-enum-told
 enum-told c = search needs
@@ -39,11 +39,14 @@ slice-requires-2 c κs = search needs
 long-number-requires : tie.Need-long-number-requires
 long-number-requires c κs = search needs
 
+past-requires : tie.Need-past-requires
+past-requires c κs = search needs
+
 slice-requires-3 : tie.Need-slice-requires-3
 slice-requires-3 c κs = search needs
 
 find-phrase-requires : tie.Need-find-phrase-requires
-find-phrase-requires c κs = c .before .before .before .before .before .before .before .check-book .ensures .1 _ (c .before .before .before .before .enum-told .given .1)
+find-phrase-requires c κs = c .before .before .before .before .before .before .before .before .check-book .ensures .1 _ (c .before .before .before .before .before .enum-told .given .1)
 
 enum-known-i : tie.Need-enum-known-i
 enum-known-i c = search needs
@@ -60,14 +63,32 @@ place-requires-2 c κs = search needs
 enum-told-2 : tie.Need-enum-told-2
 enum-told-2 c = search needs
 
-write-yes-requires : tie.Need-write-yes-requires
-write-yes-requires c κs = search needs
+put-byte-requires : tie.Need-put-byte-requires
+put-byte-requires c κs = search needs
 
-past-slice-requires-3 : tie.Need-past-slice-requires-3
-past-slice-requires-3 c κs = search needs
+same-length : tie.Need-same-length
+same-length c = search needs
 
 returns : tie.Need-returns
 returns c = search needs
+
+same-length-2 : tie.Need-same-length-2
+same-length-2 c = search needs
+
+returns-2 : tie.Need-returns-2
+returns-2 c = search needs
+
+same-length-3 : tie.Need-same-length-3
+same-length-3 c = search needs
+
+returns-3 : tie.Need-returns-3
+returns-3 c = search needs
+
+same-length-4 : tie.Need-same-length-4
+same-length-4 c = search needs
+
+returns-4 : tie.Need-returns-4
+returns-4 c = search needs
 
 pub find-spec : {M : Type 1} → statement M
 find-spec =
@@ -75,16 +96,17 @@ find-spec =
     (tie.spec
     past-slice-requires
     past-slice-requires-2
-    past-requires
     slice-requires
     slice-aggregate-check-book
     check-book-requires
-    enum-known-line
-    numbered-requires
+    enum-known-bad
+    slice-aggregate-put-labelled
+    put-labelled-requires
     enum-told
     slice-aggregate-find-phrase
     slice-requires-2
     long-number-requires
+    past-requires
     slice-requires-3
     find-phrase-requires
     enum-known-i
@@ -92,6 +114,12 @@ find-spec =
     enum-known-i-2
     place-requires-2
     enum-told-2
-    write-yes-requires
-    past-slice-requires-3
-    returns)
+    put-byte-requires
+    same-length
+    returns
+    same-length-2
+    returns-2
+    same-length-3
+    returns-3
+    same-length-4
+    returns-4)

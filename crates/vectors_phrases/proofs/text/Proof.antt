@@ -21,17 +21,23 @@ long-number-requires c κs = search needs
 slice-requires : tie.Need-slice-requires
 slice-requires c κs = search needs
 
+slice-requires-2 : tie.Need-slice-requires-2
+slice-requires-2 c κs = search needs
+
 slice-aggregate-check-book : tie.Need-slice-aggregate-check-book
 slice-aggregate-check-book c = search needs
 
 check-book-requires : tie.Need-check-book-requires
 check-book-requires c κs = search needs
 
-enum-known-line : tie.Need-enum-known-line
-enum-known-line c = search needs
+enum-known-bad : tie.Need-enum-known-bad
+enum-known-bad c = search needs
 
-numbered-requires : tie.Need-numbered-requires
-numbered-requires c κs = search needs
+slice-aggregate-put-labelled : tie.Need-slice-aggregate-put-labelled
+slice-aggregate-put-labelled c = search needs
+
+put-labelled-requires : tie.Need-put-labelled-requires
+put-labelled-requires c κs = search needs
 
 enum-told : tie.Need-enum-told
 enum-told c = search needs
@@ -39,17 +45,20 @@ enum-told c = search needs
 slice-aggregate-text-at : tie.Need-slice-aggregate-text-at
 slice-aggregate-text-at c = search needs
 
-slice-requires-2 : tie.Need-slice-requires-2
-slice-requires-2 c κs = search needs
-
 text-at-requires : tie.Need-text-at-requires
 text-at-requires c κs = c .before .before .before .before .before .check-book .ensures .1 _ (c .before .before .enum-told .given .1)
 
-past-requires-2 : tie.Need-past-requires-2
-past-requires-2 c κs = search needs
+same-length : tie.Need-same-length
+same-length c = search needs
 
 returns : tie.Need-returns
 returns c = search needs
+
+same-length-2 : tie.Need-same-length-2
+same-length-2 c = search needs
+
+returns-2 : tie.Need-returns-2
+returns-2 c = search needs
 
 pub text-spec : {M : Type 1} → statement M
 text-spec =
@@ -61,13 +70,16 @@ text-spec =
     past-requires
     long-number-requires
     slice-requires
+    slice-requires-2
     slice-aggregate-check-book
     check-book-requires
-    enum-known-line
-    numbered-requires
+    enum-known-bad
+    slice-aggregate-put-labelled
+    put-labelled-requires
     enum-told
     slice-aggregate-text-at
-    slice-requires-2
     text-at-requires
-    past-requires-2
-    returns)
+    same-length
+    returns
+    same-length-2
+    returns-2)

@@ -1,35 +1,52 @@
 -- `text_at` is safe and ends: a phrase of the book is asked only where there is one.
-use mathlib.Core.Path.{sym, _∙_}
 use mathlib.Core.Bool.{true≢false}
-use mathlib.Core.Logic.{⊎-elim}
 use native.Mathlib.Omega.{arith}
-use borrow.Author.Needs.{needs}
-use borrow.Author.Tests.{ltb-true}
 use Rattle.phrases.proofs.Entries.{indexed-count}
+use borrow.Author.Needs.{needs}
 use Rattle.vectors_phrases.proofs.text_at.Statement.{statement}
 use Rattle.vectors_phrases.proofs.text_at.Tie as tie
 
-count-of-requires : tie.Need-count-of-requires
-count-of-requires c κs = search needs
-
 phrase-text-requires : tie.Need-phrase-text-requires
-phrase-text-requires c κs =
-    let s = c .before .before .before .before in (
-      s .pre,
-      λ book. ⊎-elim (λ w. absurd (true≢false (sym (w .taken) ∙ book)))
-          (λ w. omega (arith, ltb-true (s .args .i) (w .1 .result) (w .2 .taken), w .1 .ensures, indexed-count _ _ (s .pre))) (c .if1 .came),
-    )
+phrase-text-requires c κs = (search needs, λ book. absurd (true≢false book))
 
-write-hex-requires : tie.Need-write-hex-requires
-write-hex-requires c κs = search needs
+put-pairs-requires : tie.Need-put-pairs-requires
+put-pairs-requires c κs = search needs
+
+same-length : tie.Need-same-length
+same-length c = search needs
 
 returns : tie.Need-returns
 returns c = search needs
 
+count-of-requires : tie.Need-count-of-requires
+count-of-requires c κs = search needs
+
+phrase-text-requires-2 : tie.Need-phrase-text-requires-2
+phrase-text-requires-2 c κs = (search needs, λ book. omega (arith, c .before .if2 .taken, c .before .before .count-of .ensures, indexed-count _ _ (c .before .before .before .before .before .before .before .before .pre)))
+
+put-pairs-requires-2 : tie.Need-put-pairs-requires-2
+put-pairs-requires-2 c κs = search needs
+
+same-length-2 : tie.Need-same-length-2
+same-length-2 c = search needs
+
 returns-2 : tie.Need-returns-2
 returns-2 c = search needs
+
+returns-3 : tie.Need-returns-3
+returns-3 c = search needs
 
 pub text-at-spec : {M : Type 1} → statement M
 text-at-spec =
     tie.close
-    (tie.spec count-of-requires phrase-text-requires write-hex-requires returns returns-2)
+    (tie.spec
+    phrase-text-requires
+    put-pairs-requires
+    same-length
+    returns
+    count-of-requires
+    phrase-text-requires-2
+    put-pairs-requires-2
+    same-length-2
+    returns-2
+    returns-3)

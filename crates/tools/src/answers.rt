@@ -1,6 +1,6 @@
 // Answers from the arguments.
 use crate::Input;
-use crate::results::tell;
+use crate::tell;
 use decimals::Constant;
 use printed::front;
 ghost use mathlib.Core.Path.{_≡_};

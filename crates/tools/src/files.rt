@@ -1,6 +1,6 @@
 // Input files.
 use crate::Input;
-use crate::results::tell;
+use crate::tell;
 use libc::STDIN_FILENO;
 use printed::front;
 ghost use Rattle.tools.specs.Inputs.{Within};

@@ -1,19 +1,14 @@
-// What the tools share: input files, answers from the arguments, and what is written of a result.
+// What the tools share: input files, and answers from the arguments.
 // A file is named by an argument; `-` is standard input. What cannot be read is told on standard error, in one line, and nothing is
-// printed. No contract can say what is read or written; what is read has room in the lent space (specs/Inputs.antt). The work is that
-// of crate printed, on slices.
+// printed. No contract can say what is read; what is read has room in the lent space (specs/Inputs.antt).
 mod answers;
 mod files;
-mod results;
 
 pub use answers::first_answers;
 pub use answers::read_answers;
 pub use files::read_file;
 pub use files::read_plate;
-pub use results::refuse;
-pub use results::report;
-pub use results::usage;
-pub use results::write;
+use libc::STDERR_FILENO;
 
 // How many bytes of a book are enough. A good book has at most 256 lines of 65 bytes, 16,640. Of a longer one the first bad line starts
 // behind at most 256 good ones, so that it has a byte within the first 16,641: it stands there whole, and is as bad, or it is cut off,
@@ -25,4 +20,11 @@ pub const BOOK: usize = 16641;
 pub enum Input {
     Holds(usize),
     Unread,
+}
+
+// A line with a number in it, to standard error.
+fn tell(first: &[u8], n: usize, last: &[u8]) {
+    io::write_all(STDERR_FILENO, first);
+    io::print_decimal(STDERR_FILENO, n as u64);
+    io::write_all(STDERR_FILENO, last);
 }

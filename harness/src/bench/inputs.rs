@@ -101,6 +101,24 @@ pub fn prints(count: usize) -> Vec<u8> {
     "print,a\n".repeat(count).into_bytes()
 }
 
+/// So many lines `input,0,a`.
+pub fn questions(count: usize) -> Vec<u8> {
+    "input,0,a\n".repeat(count).into_bytes()
+}
+
+/// 400 ifs without a block, each second one with a constant of 32 bits, which is near all that a plate holds.
+pub fn tests() -> Vec<u8> {
+    "if,0,eq,0\nfi\nif,0,eq,100000\nfi\n".repeat(200).into_bytes()
+}
+
+/// 32 own phrases of 13 bytes, and 400 prints of them.
+pub fn own_prints() -> Vec<u8> {
+    let own = |place: usize| format!("own phrase {:02}", place % MAX_OWN);
+    let phrases = lines(MAX_OWN, |place| format!("phrase,{}", own(place)));
+    let prints = lines(400, |place| format!("print,{}", own(place * 7)));
+    (phrases + &prints).into_bytes()
+}
+
 /// So many instructions of a guide, a multiple of 8, with phrases of the short book.
 pub fn series(instructions: usize) -> Vec<u8> {
     let eight = |place: usize| {

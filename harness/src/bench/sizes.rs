@@ -17,6 +17,9 @@ spelled  51 prints of 64 bytes and 2 inputs, none a phrase of the full book of 2
 book     an empty guide with that full book: the check of the book alone
 phrases  512 instructions of every kind, whose texts are phrases of 8 bytes of a book of 40
 lines    512 lines print,a, and their plate, empty book
+asked    512 lines input,0,a, and their plate, empty book
+tests    400 ifs without a block, half of them with a constant of 32 bits, empty book
+own      32 own phrases of 13 bytes and 400 prints of them, empty book
 plate    the plate of 2,953 bytes of spelled texts, empty book";
 
 /// A size, how it is made, and the calls that are measured on it.
@@ -26,7 +29,7 @@ pub struct Size {
     pub calls: &'static [Call],
 }
 
-pub const ALL: [Size; 9] = [
+pub const ALL: [Size; 12] = [
     Size { name: "small", subject: small, calls: &Call::ALL },
     Size { name: "middle", subject: middle, calls: &Call::ALL },
     Size { name: "large", subject: guide, calls: &[Call::Translate, Call::Walk] },
@@ -39,6 +42,9 @@ pub const ALL: [Size; 9] = [
     Size { name: "book", subject: book, calls: &[Call::Translate] },
     Size { name: "phrases", subject: phrases, calls: &Call::ALL },
     Size { name: "lines", subject: short, calls: &Call::ALL },
+    Size { name: "asked", subject: asked, calls: &Call::ALL },
+    Size { name: "tests", subject: ifs, calls: &Call::ALL },
+    Size { name: "own", subject: own, calls: &Call::ALL },
     Size { name: "plate", subject: plate, calls: &[Call::WritePlate, Call::ReadPlate, Call::Run] },
 ];
 
@@ -88,6 +94,18 @@ fn phrases() -> Subject {
 
 fn short() -> Subject {
     Subject::of_guide(prints(MAX_INSTRUCTIONS), Vec::new(), Vec::new())
+}
+
+fn asked() -> Subject {
+    Subject::of_guide(questions(MAX_INSTRUCTIONS), Vec::new(), zeros())
+}
+
+fn ifs() -> Subject {
+    Subject::of_guide(tests(), Vec::new(), Vec::new())
+}
+
+fn own() -> Subject {
+    Subject::of_guide(own_prints(), Vec::new(), Vec::new())
 }
 
 fn plate() -> Subject {

@@ -1,5 +1,6 @@
 pub mod Onward
 pub mod Ahead
+pub mod Halves
 pub mod Behind
 pub mod Characters
 pub mod Copies

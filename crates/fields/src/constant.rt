@@ -6,12 +6,14 @@ ghost use lib.ListN.{length};
 ghost use lib.Dec.{ltb};
 ghost use lib.IntN.{pos, negsuc};
 ghost use Rattle.plate.specs.Writing.{isShort};
+ghost use Rattle.plate.specs.Reading.{number};
 ghost use Rattle.plate.specs.Plate.{constant, short, constantBy};
-ghost use Rattle.fields.specs.Places.{placeAt, constantRead};
+ghost use Rattle.fields.specs.Places.{placeAt, fieldRead, constantRead};
 use crate::ConstantRead;
 use crate::Field;
 use crate::numbers::read_field;
 use crate::numbers::read_plain;
+use bits::Number;
 use causes::Cause;
 use causes::Refusal;
 
@@ -49,12 +51,30 @@ fn read_short(plate: &[u8], at: usize) -> ConstantRead
     ConstantRead::Is(signed(value, 32768), next)
 }
 
+// A number of 32 bits, read in two halves: each lies in four bytes, which are one load.
+fn read_halves(plate: &[u8], at: usize) -> Field
+    requires { ⌜ length (now plate) ≤ 2953 ⌝ }
+    ensures { λ r. ⌜ fieldRead (now (plate .entry)) r ≡ number 32 (placeAt (now (plate .entry)) at) ⌝ }
+{
+    let ends = Field::Refused(Refusal {
+        cause: Cause::PlateEnds,
+        place: at,
+    });
+    let Number::Is(high) = bits::read_number(plate, at, 16) else {
+        return ends;
+    };
+    let Number::Is(low) = bits::read_number(plate, at + 16, 16) else {
+        return ends;
+    };
+    Field::Is(high as usize * 65536 + low as usize, at + 32)
+}
+
 // A constant of 32 bits, for which 16 are not enough.
 fn read_long(plate: &[u8], at: usize) -> ConstantRead
     requires { ⌜ length (now plate) ≤ 2953 ⌝ }
     ensures { λ r. ⌜ constantRead (now (plate .entry)) r ≡ constantBy 1 (placeAt (now (plate .entry)) at) ⌝ }
 {
-    let field = read_plain(plate, at, 32);
+    let field = read_halves(plate, at);
     let Field::Is(value, next) = field else {
         return ConstantRead::Refused(field.refusal());
     };

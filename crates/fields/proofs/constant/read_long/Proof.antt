@@ -11,8 +11,8 @@ use Rattle.fields.proofs.SignedRead.{signed-got}
 use Rattle.fields.proofs.constant.read_long.Statement.{statement}
 use Rattle.fields.proofs.constant.read_long.Tie as tie
 
-read-plain-requires : tie.Need-read-plain-requires
-read-plain-requires c κs = search needs
+read-halves-requires : tie.Need-read-halves-requires
+read-halves-requires c κs = search needs
 
 enum-known-field : tie.Need-enum-known-field
 enum-known-field c = search needs
@@ -27,12 +27,12 @@ returns : tie.Need-returns
 returns c =
     judged-stopped _ _ _ _ _
     (then-stopped _ _ _
-    (field-stopped _ _ (c .before .before .before .read-plain .ensures) (c .before .enum-told .given .1) (c .refusal .ensures)))
+    (field-stopped _ _ (c .before .before .before .read-halves .ensures) (c .before .enum-told .given .1) (c .refusal .ensures)))
 
 signed-requires : tie.Need-signed-requires
 signed-requires c κs = (
   got-good _ (gives-number 32)
-      (field-got _ _ (c .before .before .before .read-plain .ensures) (c .before .field .given .1)),
+      (field-got _ _ (c .before .before .before .read-halves .ensures) (c .before .field .given .1)),
   search needs,
 )
 
@@ -40,13 +40,13 @@ is-short-requires : tie.Need-is-short-requires
 is-short-requires c κs = search needs
 
 returns-2 : tie.Need-returns-2
-returns-2 c = let e = field-got _ _ (c .before .before .before .before .before .before .read-plain .ensures)
+returns-2 c = let e = field-got _ _ (c .before .before .before .before .before .before .read-halves .ensures)
     (c .before .before .before .before .field .given .1) in
     let l = signed-got 32 refl (omega arith) _ _ _ _ (got-good _ (gives-number 32) e) e (c .before .before .signed .ensures) in
     judged-not long _ _ _ _ l (ap not (sym (c .before .is-short .ensures) ∙ c .if1 .taken))
 
 returns-3 : tie.Need-returns-3
-returns-3 c = let e = field-got _ _ (c .before .before .before .before .before .before .read-plain .ensures)
+returns-3 c = let e = field-got _ _ (c .before .before .before .before .before .before .read-halves .ensures)
     (c .before .before .before .before .field .given .1) in
     let l = signed-got 32 refl (omega arith) _ _ _ _ (got-good _ (gives-number 32) e) e (c .before .before .signed .ensures) in
     judged-got long _ _ _ _ l (ap not (sym (c .before .is-short .ensures) ∙ c .if1 .left))
@@ -55,7 +55,7 @@ pub read-long-spec : {M : Type 1} → statement M
 read-long-spec =
     tie.close
     (tie.spec
-    read-plain-requires
+    read-halves-requires
     enum-known-field
     enum-told
     refusal-requires

@@ -1,4 +1,2 @@
 pub mod Places
 pub mod Signs
-pub mod Content
-pub mod Checksums

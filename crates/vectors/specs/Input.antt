@@ -1,6 +1,6 @@
--- What stands at a place of the input of a vector program, and what a lent buffer holds before a call.
-use Prim.Native.Nat.{ℕ, zero, suc, _+_, _*_, _-_, _%_, min}
-use mathlib.Core.List.{List, [], _∷_, _++_}
+-- What stands at a place of the input of a vector program.
+use Prim.Native.Nat.{ℕ, _+_, _*_, _-_, min}
+use mathlib.Core.List.{List, []}
 use mathlib.Core.Bool.{cond}
 use lib.ListN.{length, take, drop, getD}
 use lib.Dec.{leb, ltb}
@@ -38,12 +38,3 @@ sliceEnd s at = onward (onward at 4) (numberAt s at)
 -- the bytes of a slice, none where it goes past the end
 unfoldable pub sliceAt : List ℕ → ℕ → List ℕ
 sliceAt s at = cond (leb (sliceEnd s at) (length s)) (take (numberAt s at) (drop (onward at 4) s)) []
-
--- how many bytes of a space are lent: as many as a case says, at most all
-abbrev pub lentOf : List ℕ → ℕ → ℕ
-lentOf space count = min count (length space)
-
--- the content of a lent buffer of a length before a call
-unfoldable pub content : ℕ → List ℕ
-content zero = []
-content (suc i) = content i ++ ((i * 7 + 13) % 256 ∷ [])

@@ -48,7 +48,7 @@ fn same_answer(a: Ran, b: Ran) -> bool {
 fn compare(line: &mut [u8], walked: Ran, transcript: &[u8], ran: Ran, other: &[u8]) -> usize {
     if same_answer(walked, ran) {
         if text::same(transcript, other) {
-            return vectors_calls::put_ran(line, 0, walked, transcript);
+            return vectors_lines::put_ran(line, 0, walked, transcript);
         }
     }
     text_out::put(line, 0, b"D\n")
@@ -66,7 +66,7 @@ fn call(
     let mut plate = [0u8; 2953];
     let mut scratch = [0u16; 512];
     if let Written::Refused(r) = translate::translate(guide, book, &mut plate) {
-        return vectors_calls::put_written(line, 0, Written::Refused(r), &[]);
+        return vectors_lines::put_written(line, 0, Written::Refused(r), &[]);
     }
     let walked = walk::walk(guide, book, answers, first);
     let ran = agreement::translate_and_run(guide, book, &mut plate, answers, &mut scratch, second);
@@ -75,9 +75,9 @@ fn call(
 
 // The same with a second output as long as the first, and with its content; and the line, which has fewer than 256 bytes.
 fn twice(guide: &[u8], book: &[u8], answers: &[i32], first: &mut [u8], other: &mut [u8]) {
-    let lent = vectors::lent(other, first.len());
+    let lent = vectors_buffer::lent(other, first.len());
     let second = &mut other[..lent];
-    vectors::fill(second);
+    vectors_buffer::fill(second);
     let mut line = [0; 256];
     let end = call(&mut line, guide, book, answers, first, second);
     io::write_all(STDOUT_FILENO, front(&line, end));
@@ -121,10 +121,10 @@ fn cases(input: &mut [u8], book: &mut [u8], answers: &mut [i32], out: &mut [u8],
 }
 
 fn main() {
-    let mut input = vectors_calls::input_space();
-    let mut book = vectors_calls::book_space();
-    let mut answers = vectors_calls::answers_space();
-    let mut out = vectors_calls::lent_space();
-    let mut other = vectors_calls::lent_space();
+    let mut input = vectors_spaces::input_space();
+    let mut book = vectors_spaces::book_space();
+    let mut answers = vectors_spaces::answers_space();
+    let mut out = vectors_spaces::lent_space();
+    let mut other = vectors_spaces::lent_space();
     cases(&mut input, &mut book, &mut answers, &mut out, &mut other);
 }

@@ -3,7 +3,7 @@ use Prim.Native.Nat.{ℕ, _≤_}
 use mathlib.Core.Path.{_≡_}
 use mathlib.Core.List.{List}
 use lib.ListN.{length, take}
-use Rattle.vectors_calls.specs.declared.read.Case.{Case}
+use Rattle.vectors_calls.specs.declared.Case.{Case}
 
 -- a space has so many elements at its front
 abbrev pub Front : {A : Type 0} → ℕ → List A → Type 0

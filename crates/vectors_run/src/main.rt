@@ -7,7 +7,7 @@ use printed::front;
 fn call(plate: &[u8], book: &[u8], answers: &[i32], scratch: &mut [u16], out: &mut [u8]) {
     let answer = run::run(plate, book, answers, scratch, out);
     let mut line = [0; 256];
-    let end = vectors_calls::put_ran(&mut line, 0, answer, out);
+    let end = vectors_lines::put_ran(&mut line, 0, answer, out);
     io::write_all(STDOUT_FILENO, front(&line, end));
 }
 
@@ -56,10 +56,10 @@ fn cases(
 }
 
 fn main() {
-    let mut input = vectors_calls::input_space();
-    let mut book = vectors_calls::book_space();
-    let mut answers = vectors_calls::answers_space();
-    let mut scratch = vectors_calls::scratch_space();
-    let mut out = vectors_calls::lent_space();
+    let mut input = vectors_spaces::input_space();
+    let mut book = vectors_spaces::book_space();
+    let mut answers = vectors_spaces::answers_space();
+    let mut scratch = vectors_spaces::scratch_space();
+    let mut out = vectors_spaces::lent_space();
     cases(&mut input, &mut book, &mut answers, &mut scratch, &mut out);
 }

@@ -8,12 +8,18 @@ use lib.ListN.{length, take, drop, length-drop}
 use lib.Seq.{take-all}
 use lib.Dec.{leb}
 use borrow.Author.Tests.{le-leb, lt-leb, leb-true, leb-false}
-use Rattle.vectors.specs.Input.{onward, pairAt, numberAt, sliceAt, sliceEnd}
+use Rattle.vectors.specs.Input.{onward, pairAt, numberAt, longAt, sliceAt, sliceEnd}
 
 -- a number of four bytes is two of two
-pub number-pairs : (s : List ℕ) (at : ℕ) → pairAt s at + pairAt s (onward at 2) * 65536 ≡ numberAt s at
+pub number-pairs : (s : List ℕ) (at low place high : ℕ) → low ≡ pairAt s at → place ≡ onward at 2 → high ≡ pairAt s place
+    → low + high * 65536 ≡ numberAt s at
 unfolding numberAt
-number-pairs s at = let e : onward (onward at 2) 1 ≡ onward at 3 = omega arith in rw e (omega arith)
+number-pairs s at low place high a b c = let e : onward (onward at 2) 1 ≡ onward at 3 = omega arith in rw (a, c, b, e) (omega arith)
+
+-- a number of eight bytes is two of four
+pub long-numbers : (s : List ℕ) (at low place high : ℕ) → low ≡ numberAt s at → place ≡ onward at 4 → high ≡ numberAt s place
+    → low + high * 4294967296 ≡ longAt s at
+long-numbers s at low place high a b c = rw (a, c, b)
 
 -- a slice that goes past the end has no bytes
 pub slice-none : (s : List ℕ) (at : ℕ) → length s < sliceEnd s at → [] ≡ sliceAt s at

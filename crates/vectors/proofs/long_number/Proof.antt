@@ -1,4 +1,5 @@
 -- `long_number` meets its contract: the two numbers, each by its place.
+use Rattle.vectors.proofs.Places.{long-numbers}
 use borrow.Author.Needs.{needs}
 use Rattle.vectors.proofs.long_number.Statement.{statement}
 use Rattle.vectors.proofs.long_number.Tie as tie
@@ -19,7 +20,7 @@ add-result : tie.Need-add-result
 add-result c = search needs
 
 returns : tie.Need-returns
-returns c = cc
+returns c = long-numbers _ _ _ _ _ (c .before .before .number .ensures .0) (c .before .past .ensures) (c .number2 .ensures .0)
 
 pub long-number-spec : {M : Type 1} → statement M
 long-number-spec =

@@ -20,7 +20,8 @@ add-result : tie.Need-add-result
 add-result c = search needs
 
 returns : tie.Need-returns
-returns c = let a = c .before .before .before .before .args in (cc (number-pairs (a .s .now) (a .at)), search needs)
+returns c =
+    (number-pairs _ _ _ _ _ (c .before .before .pair .ensures .0) (c .before .past .ensures) (c .pair2 .ensures .0), search needs)
 
 pub number-spec : {M : Type 1} → statement M
 number-spec =

@@ -1,11 +1,5 @@
 pub mod Onward
 pub mod Ahead
-pub mod Halves
 pub mod Behind
-pub mod Characters
 pub mod Copies
 pub mod Answers
-pub mod SignedRead
-pub mod Ops
-pub mod Cuts
-pub mod TextCopy

@@ -1,27 +1,15 @@
-// The fields of a plate, read at a bit: numbers, constants, the R, OP and C of an if, and characters up to ETX.
+// The fields of a plate, read at a bit: the answers of all that read them, and numbers. Constants and characters are crates of their own.
 // Every function takes any bits and reads from any bit on. Its contract says that its answer stands, by a map of specs/Places.antt, for
 // what a reader of crate plate's specs/Plate.antt finds there: the value, the bit behind it, and in a refusal the cause and its bit.
 // Asked of a caller: a plate of at most 2,953 bytes.
-mod constant;
-mod copying;
 mod numbers;
 mod refusals;
-mod spelling;
-mod tests;
 
 use causes::Refusal;
-pub use constant::read_constant;
-pub use constant::signed;
-pub use copying::copy_characters;
-pub use copying::copy_each;
 pub use numbers::plain_ahead;
 pub use numbers::read_field;
 pub use numbers::read_plain;
 pub use numbers::read_skip;
-pub use spelling::last_size;
-pub use spelling::read_size;
-pub use tests::op_of;
-pub use tests::read_test;
 use transcript::Test;
 
 // What reading a field finds: the value and the bit behind it, or a refusal at the field's first bit.

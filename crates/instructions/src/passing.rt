@@ -5,7 +5,7 @@ use fields::TestRead;
 use fields::read_field;
 use fields::read_plain;
 use fields::read_skip;
-use fields::read_test;
+use plate_constants::read_test;
 use plate_texts::pass_text;
 use plate_texts::pass_texts;
 ghost use mathlib.Core.Path.{_≡_};

@@ -13,7 +13,7 @@ use Rattle.bits.proofs.Reading.{number-in}
 use Rattle.plate.specs.Reading.{Place, got, number, judged}
 use Rattle.fields.specs.Places.{placeAt, Known}
 use Rattle.fields.proofs.Onward.{number-there}
-use Rattle.fields.proofs.TextCopy.{got-known}
+use Rattle.plate_characters.proofs.TextCopy.{got-known}
 use Rattle.fields.proofs.Ahead.{known-room, known-part}
 use Rattle.plate_texts.proofs.Known.{known-judged}
 

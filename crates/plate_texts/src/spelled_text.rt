@@ -11,9 +11,9 @@ ghost use Rattle.fields.specs.Places.{placeAt, sizeRead, untilETX, valuesOf, Kn
 use causes::Cause;
 use causes::Refusal;
 use fields::Field;
-use fields::copy_each;
-use fields::last_size;
 use phrases::Found;
+use plate_characters::copy_each;
+use plate_characters::last_size;
 
 // Whether a text is no phrase.
 fn is_new(index: &[u32], book: &[u8], own: &[u8], count: usize, text: &[u8]) -> bool

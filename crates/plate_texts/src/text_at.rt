@@ -6,7 +6,7 @@ use causes::Cause;
 use causes::Refusal;
 use fields::Field;
 use fields::plain_ahead;
-use fields::read_size;
+use plate_characters::read_size;
 ghost use mathlib.Core.Path.{_≡_};
 ghost use Prim.Native.Nat.{_≤_};
 ghost use lib.ListN.{length};

@@ -21,7 +21,7 @@ use Rattle.plate.proofs.Spelled.{gives-spelled}
 use Rattle.fields.specs.Places.{placeAt, untilETX}
 use Rattle.fields.proofs.Onward.{then-got, then-stopped, got-good}
 use Rattle.fields.proofs.Behind.{behind, behind-none, behind-one}
-use Rattle.fields.proofs.TextCopy.{got-known}
+use Rattle.plate_characters.proofs.TextCopy.{got-known}
 use Rattle.plate_texts.proofs.Known.{known-judged}
 use Rattle.reader.specs.Own.{phraseLine, ownLines, whenRead, ownUntil, ownCounted, ownStored}
 use Rattle.reader.proofs.OwnLines.{lines-more, lines-texts, lines-length}

@@ -11,8 +11,8 @@ ghost use Rattle.plate.specs.Plate.{ownCount, ownFrom};
 ghost use Rattle.fields.specs.Places.{placeAt, fieldRead, untilETX, valuesOf, Known};
 ghost use Rattle.reader.specs.Own.{hasOwn, OwnRoom, phraseLine, ownPhrases, ownRead, OwnThere, ownLines, ownUntil, ownCounted};
 use fields::Field;
-use fields::copy_each;
 use fields::read_plain;
+use plate_characters::copy_each;
 use plate_texts::read_spelled;
 
 // Whether a plate has own phrases: its first bit is 1.

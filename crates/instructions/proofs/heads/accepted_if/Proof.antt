@@ -2,7 +2,7 @@
 use mathlib.Core.Path.{refl, sym, ap, _∙_}
 use native.Mathlib.Omega.{arith}
 use Rattle.plate.specs.Plate.{opOf, signed}
-use Rattle.fields.proofs.SignedRead.{held}
+use Rattle.plate_constants.proofs.SignedRead.{held}
 use Rattle.instructions.proofs.PartRead.{part-below}
 use Rattle.instructions.proofs.IfFields.{if-parts}
 use borrow.Author.Needs.{needs}

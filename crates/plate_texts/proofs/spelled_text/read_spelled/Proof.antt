@@ -6,7 +6,7 @@ use Rattle.plate.specs.Plate.{spelled}
 use Rattle.fields.specs.Places.{untilETX, valuesOf}
 use Rattle.fields.proofs.Answers.{size-got, size-kept}
 use Rattle.fields.proofs.Copies.{length-characters}
-use Rattle.fields.proofs.TextCopy.{got-known}
+use Rattle.plate_characters.proofs.TextCopy.{got-known}
 use Rattle.plate_texts.proofs.Spelled.{sized-few, spelled-got, spelled-sized, spelled-phrase}
 use Rattle.plate_texts.proofs.spelled_text.read_spelled.Statement.{statement}
 use Rattle.plate_texts.proofs.spelled_text.read_spelled.Tie as tie

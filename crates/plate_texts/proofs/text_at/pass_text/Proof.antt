@@ -13,7 +13,7 @@ use Rattle.plate.specs.Plate as reader
 use Rattle.fields.proofs.Onward.{then-got, then-stopped, judged-stopped}
 use Rattle.fields.proofs.Answers.{answered, field-got, field-refused, size-got}
 use Rattle.fields.proofs.Copies.{length-characters}
-use Rattle.fields.proofs.TextCopy.{got-known}
+use Rattle.plate_characters.proofs.TextCopy.{got-known}
 use Rattle.plate_texts.proofs.Behind.{judged-behind, judged-room}
 use Rattle.plate_texts.proofs.PhraseRead.{book-count}
 use Rattle.plate_texts.proofs.Spelled.{sized-few, none-there, spelled-got, spelled-sized, spelled-phrase}

@@ -8,7 +8,7 @@ use Rattle.output.proofs.Pour.{kept}
 use Rattle.output.specs.Pour.{poured}
 use Rattle.fields.specs.Places.{refusalOf, sizeRead, valuesOf}
 use Rattle.fields.proofs.Answers.{answered, size-got}
-use Rattle.fields.proofs.TextCopy.{got-known}
+use Rattle.plate_characters.proofs.TextCopy.{got-known}
 use Rattle.reader.specs.Own.{ownRead, phraseLine}
 use Rattle.reader.proofs.OwnAnswers.{none-there}
 use Rattle.reader.proofs.OwnSoFar.{phrase-characters, OwnSoFar, own-start, own-there, own-ended, own-stopped, own-more, own-left-stopped, own-left-ended}

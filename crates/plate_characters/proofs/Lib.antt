@@ -1,0 +1,3 @@
+pub mod Characters
+pub mod Cuts
+pub mod TextCopy

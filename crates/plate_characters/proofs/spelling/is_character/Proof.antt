@@ -1,0 +1,17 @@
+-- `is_character` meets its contract: ETX, or a byte of a text.
+use borrow.Author.Needs.{needs}
+use borrow.Author.Tests.{eq-eqb, ne-eqb}
+use Rattle.plate_characters.proofs.spelling.is_character.Statement.{statement}
+use Rattle.plate_characters.proofs.spelling.is_character.Tie as tie
+
+returns : tie.Need-returns
+returns c = simp (eq-eqb _ _ (c .if1 .taken))
+
+is-plain-requires : tie.Need-is-plain-requires
+is-plain-requires c κs = search needs
+
+returns-2 : tie.Need-returns-2
+returns-2 c = simp (ne-eqb _ _ (c .before .if1 .left)) (c .is-plain .ensures)
+
+pub is-character-spec : {M : Type 1} → statement M
+is-character-spec = tie.close (tie.spec returns is-plain-requires returns-2)

@@ -1,0 +1,9 @@
+// The characters of a plate, read from a bit on up to ETX: judged and counted, or copied into a buffer.
+// Every function takes any bits and reads from any bit on. Its contract is of the kind of crate fields'.
+mod copying;
+mod spelling;
+
+pub use copying::copy_characters;
+pub use copying::copy_each;
+pub use spelling::last_size;
+pub use spelling::read_size;

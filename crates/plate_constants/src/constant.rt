@@ -1,0 +1,104 @@
+// Constants of a plate, in two's complement: 16 bits, or 32 where 16 are not enough.
+ghost use mathlib.Core.Path.{_≡_};
+ghost use mathlib.Core.Bool.{cond};
+ghost use Prim.Native.Nat.{_+_, _-_, _≤_, _<_};
+ghost use lib.ListN.{length};
+ghost use lib.Dec.{ltb};
+ghost use lib.IntN.{pos, negsuc};
+ghost use Rattle.plate.specs.Writing.{isShort};
+ghost use Rattle.plate.specs.Reading.{number};
+ghost use Rattle.plate.specs.Plate.{constant, short, constantBy};
+ghost use Rattle.fields.specs.Places.{placeAt, fieldRead, constantRead};
+use bits::Number;
+use causes::Cause;
+use causes::Refusal;
+use fields::ConstantRead;
+use fields::Field;
+use fields::read_field;
+use fields::read_plain;
+
+// The number whose two's complement is the value, where half of all values are not below 0.
+pub fn signed(value: usize, half: usize) -> i32
+    requires { ⌜ (value < half + half) × (half ≤ 2147483648) ⌝ }
+    ensures { λ r. ⌜ r ≡ cond (ltb value half) (pos value) (negsuc (half + half - 1 - value)) ⌝ }
+{
+    if value < half {
+        value as i32
+    } else {
+        !((half + half - 1 - value) as i32)
+    }
+}
+
+// Whether 16 bits are enough.
+fn is_short(constant: i32) -> bool
+    ensures { λ r. ⌜ r ≡ isShort constant ⌝ }
+{
+    if -32768 <= constant {
+        return constant <= 32767;
+    }
+    false
+}
+
+// A constant of 16 bits.
+fn read_short(plate: &[u8], at: usize) -> ConstantRead
+    requires { ⌜ length (now plate) ≤ 2953 ⌝ }
+    ensures { λ r. ⌜ constantRead (now (plate .entry)) r ≡ short (placeAt (now (plate .entry)) at) ⌝ }
+{
+    let field = read_plain(plate, at, 16);
+    let Field::Is(value, next) = field else {
+        return ConstantRead::Refused(field.refusal());
+    };
+    ConstantRead::Is(signed(value, 32768), next)
+}
+
+// A number of 32 bits, read in two halves: each lies in four bytes, which are one load.
+fn read_halves(plate: &[u8], at: usize) -> Field
+    requires { ⌜ length (now plate) ≤ 2953 ⌝ }
+    ensures { λ r. ⌜ fieldRead (now (plate .entry)) r ≡ number 32 (placeAt (now (plate .entry)) at) ⌝ }
+{
+    let ends = Field::Refused(Refusal {
+        cause: Cause::PlateEnds,
+        place: at,
+    });
+    let Number::Is(high) = bits::read_number(plate, at, 16) else {
+        return ends;
+    };
+    let Number::Is(low) = bits::read_number(plate, at + 16, 16) else {
+        return ends;
+    };
+    Field::Is(high as usize * 65536 + low as usize, at + 32)
+}
+
+// A constant of 32 bits, for which 16 are not enough.
+fn read_long(plate: &[u8], at: usize) -> ConstantRead
+    requires { ⌜ length (now plate) ≤ 2953 ⌝ }
+    ensures { λ r. ⌜ constantRead (now (plate .entry)) r ≡ constantBy 1 (placeAt (now (plate .entry)) at) ⌝ }
+{
+    let field = read_halves(plate, at);
+    let Field::Is(value, next) = field else {
+        return ConstantRead::Refused(field.refusal());
+    };
+    let constant = signed(value, 2147483648);
+    if is_short(constant) {
+        return ConstantRead::Refused(Refusal {
+            cause: Cause::Spelling,
+            place: at,
+        });
+    }
+    ConstantRead::Is(constant, next)
+}
+
+// A constant: its code, and as many bits as that says.
+pub fn read_constant(plate: &[u8], at: usize) -> ConstantRead
+    requires { ⌜ length (now plate) ≤ 2953 ⌝ }
+    ensures { λ r. ⌜ constantRead (now (plate .entry)) r ≡ constant (placeAt (now (plate .entry)) at) ⌝ }
+{
+    let field = read_field(plate, at, 2, 1, Cause::Unused);
+    let Field::Is(code, next) = field else {
+        return ConstantRead::Refused(field.refusal());
+    };
+    if code == 0 {
+        return read_short(plate, next);
+    }
+    read_long(plate, next)
+}

@@ -1,0 +1,9 @@
+// Constants of a plate, and the R, OP and C of an if, read at a bit.
+// Every function takes any bits and reads from any bit on. Its contract is of the kind of crate fields'.
+mod constant;
+mod tests;
+
+pub use constant::read_constant;
+pub use constant::signed;
+pub use tests::op_of;
+pub use tests::read_test;

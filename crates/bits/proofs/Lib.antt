@@ -3,7 +3,4 @@ pub mod Bytes
 pub mod Fields
 pub mod Turns
 pub mod Words
-pub mod Ahead
 pub mod Reading
-pub mod Writing
-pub mod WordWriting

@@ -13,7 +13,7 @@ use Rattle.bits.specs.Ahead.{aheadIn, partAhead}
 use Rattle.bits.specs.declared.Number.the-variants.{Is}
 use Rattle.bits.proofs.Bytes.{length-bytesBits}
 use Rattle.bits.proofs.Reading.{number-in}
-use Rattle.bits.proofs.Ahead.{part-value}
+use Rattle.bits_ahead.proofs.Ahead.{part-value}
 use Rattle.plate.specs.Reading.{got, number}
 use Rattle.fields.specs.Places.{placeAt, Known}
 use Rattle.fields.proofs.Onward.{number-there}

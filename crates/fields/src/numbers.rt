@@ -17,7 +17,7 @@ pub fn read_plain(plate: &[u8], at: usize, width: usize) -> Field
     requires { ⌜ (width ≤ 32) × (length (now plate) ≤ 2953) ⌝ }
     ensures { λ r. ⌜ fieldRead (now (plate .entry)) r ≡ number width (placeAt (now (plate .entry)) at) ⌝ }
 {
-    let Number::Is(value) = bits::read_number(plate, at, width) else {
+    let Number::Is(value) = bits_in::read_number(plate, at, width) else {
         return Field::Refused(Refusal {
             cause: Cause::PlateEnds,
             place: at,
@@ -32,7 +32,7 @@ pub fn plain_ahead(plate: &[u8], ahead: usize, at: usize, k: usize, width: usize
     ensures { λ r. ⌜ fieldRead (now (plate .entry)) r ≡ number width (placeAt (now (plate .entry)) (at + k)) ⌝ }
 {
     let place = at + k;
-    let Number::Is(value) = bits::number_ahead(plate, ahead, at, k, width) else {
+    let Number::Is(value) = bits_ahead::number_ahead(plate, ahead, at, k, width) else {
         return Field::Refused(Refusal {
             cause: Cause::PlateEnds,
             place,

@@ -61,13 +61,13 @@ pub fn accepted_if(plate: &[u8], at: usize, ahead: usize) -> IfRead
     ensures { λ r. ⌜ ((c : Phrases) (behind : ℕ) → Known (fieldsBy c behind 5 (placeAt (now (plate .entry)) (at + 3))) → got (ifSkip (r .test) (r .skip)) (placeAt (now (plate .entry)) (r .next)) ≡ fieldsBy c behind 5 (placeAt (now (plate .entry)) (at + 3))) ⌝ }
     ensures { λ r. ⌜ (r .test .register < 32) × (r .skip < 512) ⌝ }
 {
-    if bits::part_ahead(ahead, 11, 2) != 0 {
+    if bits_ahead::part_ahead(ahead, 11, 2) != 0 {
         return long_if(plate, at + 3);
     }
-    let register = bits::part_ahead(ahead, 3, 5);
-    let op = op_of(bits::part_ahead(ahead, 8, 3));
-    let behind = bits::read_ahead(plate, at + 13);
-    let constant = signed(bits::part_ahead(behind, 0, 16), 32768);
+    let register = bits_ahead::part_ahead(ahead, 3, 5);
+    let op = op_of(bits_ahead::part_ahead(ahead, 8, 3));
+    let behind = bits_ahead::read_ahead(plate, at + 13);
+    let constant = signed(bits_ahead::part_ahead(behind, 0, 16), 32768);
     let test = Test {
         register,
         op,
@@ -75,7 +75,7 @@ pub fn accepted_if(plate: &[u8], at: usize, ahead: usize) -> IfRead
     };
     IfRead {
         test,
-        skip: bits::part_ahead(behind, 16, 9),
+        skip: bits_ahead::part_ahead(behind, 16, 9),
         next: at + 38,
     }
 }
@@ -86,20 +86,20 @@ pub fn accepted_head(plate: &[u8], at: usize) -> Head
     ensures { λ r. ⌜ ((c : Phrases) (behind : ℕ) → Known (instruction c behind (placeAt (now (plate .entry)) at)) → headed (now (plate .entry)) c r ≡ instruction c behind (placeAt (now (plate .entry)) at)) ⌝ }
     ensures { λ r. ⌜ HeadFits (now (plate .entry)) r ⌝ }
 {
-    let ahead = bits::read_ahead(plate, at);
-    match bits::part_ahead(ahead, 0, 3) {
+    let ahead = bits_ahead::read_ahead(plate, at);
+    match bits_ahead::part_ahead(ahead, 0, 3) {
         0 => Head::Input {
-            register: bits::part_ahead(ahead, 3, 5),
+            register: bits_ahead::part_ahead(ahead, 3, 5),
             text: at + 8,
         },
         1 => Head::Inputs {
-            register: bits::part_ahead(ahead, 3, 5),
+            register: bits_ahead::part_ahead(ahead, 3, 5),
             text: at + 8,
         },
         2 => Head::Print { text: at + 3 },
         3 => Head::Printex { text: at + 3 },
         4 => Head::Goto {
-            skip: bits::part_ahead(ahead, 3, 9),
+            skip: bits_ahead::part_ahead(ahead, 3, 9),
             next: at + 12,
         },
         _ => Head::IfSkip { bit: at, ahead },

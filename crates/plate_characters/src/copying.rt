@@ -18,7 +18,7 @@ pub fn copy_each(plate: &[u8], at: usize, out: &mut [u8], from: usize) -> Copied
     let mut end = from;
     let mut bit = at;
     loop {
-        let Number::Is(code) = bits::read_number(plate, bit, 7) else {
+        let Number::Is(code) = bits_in::read_number(plate, bit, 7) else {
             // Never: the text is known to be good.
             return Copied { end, next: bit };
         };
@@ -39,7 +39,7 @@ pub fn copy_characters(plate: &[u8], at: usize, out: &mut [u8], from: usize) -> 
     let mut end = from;
     let mut bit = at;
     loop {
-        let Wide::Is(eight) = bits::read_eight(plate, bit) else {
+        let Wide::Is(eight) = bits_in::read_eight(plate, bit) else {
             return copy_each(plate, bit, out, end);
         };
         let mut left = eight;

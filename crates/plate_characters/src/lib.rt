@@ -1,5 +1,5 @@
 // The characters of a plate, read from a bit on up to ETX: judged and counted, or copied into a buffer.
-// Every function takes any bits and reads from any bit on. Its contract is of the kind of crate fields'.
+// Every function takes any bits and reads from any bit on. Its contract is written as those of crate fields are.
 mod copying;
 mod spelling;
 

@@ -83,7 +83,7 @@ pub fn read_size(plate: &[u8], at: usize) -> Field
     let mut size = 0;
     let mut bit = at;
     loop {
-        let Wide::Is(eight) = bits::read_eight(plate, bit) else {
+        let Wide::Is(eight) = bits_in::read_eight(plate, bit) else {
             let last = last_size(plate, bit);
             let Field::Is(more, next) = last else {
                 return last;

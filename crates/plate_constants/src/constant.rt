@@ -60,10 +60,10 @@ fn read_halves(plate: &[u8], at: usize) -> Field
         cause: Cause::PlateEnds,
         place: at,
     });
-    let Number::Is(high) = bits::read_number(plate, at, 16) else {
+    let Number::Is(high) = bits_in::read_number(plate, at, 16) else {
         return ends;
     };
-    let Number::Is(low) = bits::read_number(plate, at + 16, 16) else {
+    let Number::Is(low) = bits_in::read_number(plate, at + 16, 16) else {
         return ends;
     };
     Field::Is(high as usize * 65536 + low as usize, at + 32)

@@ -16,7 +16,7 @@ use Rattle.output.proofs.Pour.{pour-length, pour-past, pour-then}
 use Rattle.output.proofs.Poured.{ended, stored}
 use Rattle.bits.specs.Bits.{bitsOf, bytesBits, filled, pack}
 use Rattle.bits.proofs.Bytes.{length-bytesBits, length-pack, filled-whole}
-use Rattle.bits.proofs.Writing.{fill}
+use Rattle.bits_out.proofs.Writing.{fill}
 use Rattle.plate.specs.Writing.{plateSized}
 use Rattle.plate_room.specs.declared.Room.{Room}
 use Rattle.plate_room.specs.declared.Room.the-variants.{Bytes, Refused}

@@ -25,5 +25,5 @@ pub enum Room {
 pub fn put_fill(out: &mut [u8], at: usize) -> usize
     ensures { λ r. ⌜ (r, bytesBits (now (out .exit))) ≡ poured at (bitsOf ((8 - at % 8) % 8) 0) (bytesBits (now (out .entry))) ⌝ }
 {
-    bits::put_bits(out, at, (8 - at % 8) % 8, 0)
+    bits_out::put_bits(out, at, (8 - at % 8) % 8, 0)
 }

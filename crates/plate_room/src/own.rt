@@ -37,10 +37,10 @@ pub fn put_own(out: &mut [u8], at: usize, own: &[u8], count: usize) -> usize
 {
     let n = count_own(own, count);
     if n == 0 {
-        return bits::put_bits(out, at, 1, 0);
+        return bits_out::put_bits(out, at, 1, 0);
     }
-    let mut end = bits::put_bits(out, at, 1, 1);
-    end = bits::put_bits(out, end, 5, n - 1);
+    let mut end = bits_out::put_bits(out, at, 1, 1);
+    end = bits_out::put_bits(out, end, 5, n - 1);
     put_phrases(out, end, own, count)
 }
 
@@ -50,5 +50,5 @@ pub fn put_front(out: &mut [u8], own: &[u8], count: usize, n: usize) -> usize
     ensures { λ r. ⌜ (r, bytesBits (now (out .exit))) ≡ poured 0 (ownBits (ownTexts count (now (own .entry))) ++ bitsOf 10 n) (bytesBits (now (out .entry))) ⌝ }
 {
     let end = put_own(out, 0, own, count);
-    bits::put_bits(out, end, 10, n)
+    bits_out::put_bits(out, end, 10, n)
 }

@@ -58,8 +58,8 @@ pub fn copy_text<'a>(
     ensures { λ r. ⌜ (r .end, now (out .exit)) ≡ poured from (valuesOf (reader.text (phrasesIn (now (book .entry)) (now (own .entry)) count) (placeAt (now (plate .entry)) at))) (now (out .entry)) ⌝ }
     ensures { λ r. ⌜ got 0 (placeAt (now (plate .entry)) (r .next)) ≡ endWith 0 (reader.text (phrasesIn (now (book .entry)) (now (own .entry)) count) (placeAt (now (plate .entry)) at)) ⌝ }
 {
-    let ahead = bits::read_ahead(plate, at);
-    if bits::part_ahead(ahead, 0, 2) != 0 {
+    let ahead = bits_ahead::read_ahead(plate, at);
+    if bits_ahead::part_ahead(ahead, 0, 2) != 0 {
         return copy_phrase(plate, ahead, at, index, book, own, count, out, from);
     }
     copy_characters(plate, at + 2, out, from)

@@ -119,7 +119,7 @@ fn place_ahead(ahead: usize, at: usize, k: usize, own: bool, n: usize) -> Phrase
     let width = phrases::width_of(n);
     PhraseAt {
         own,
-        place: bits::part_ahead(ahead, k, width),
+        place: bits_ahead::part_ahead(ahead, k, width),
         next: at + k + width,
     }
 }
@@ -145,7 +145,7 @@ pub fn accepted_phrase(
     if count == 0 {
         return place_ahead(ahead, at, 2, false, texts);
     }
-    if bits::part_ahead(ahead, 2, 1) == 0 {
+    if bits_ahead::part_ahead(ahead, 2, 1) == 0 {
         return place_ahead(ahead, at, 3, false, texts);
     }
     place_ahead(ahead, at, 3, true, count)

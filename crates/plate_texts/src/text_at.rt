@@ -60,7 +60,7 @@ pub fn pass_text(
     ensures { λ r. ⌜ fieldRead (now (plate .entry)) r ≡ endWith 0 (reader.text (phrasesIn (now (book .entry)) (now (own .entry)) count) (placeAt (now (plate .entry)) at)) ⌝ }
 {
     let n = phrases::count_of(index) + count;
-    let ahead = bits::read_ahead(plate, at);
+    let ahead = bits_ahead::read_ahead(plate, at);
     let field = read_code(plate, ahead, at, n);
     let Field::Is(code, bit) = field else {
         return field;

@@ -19,7 +19,7 @@ pub fn is_filled(plate: &[u8], at: usize) -> bool
     if 8 <= left {
         return false;
     }
-    let Number::Is(value) = bits::read_number(plate, at, left) else {
+    let Number::Is(value) = bits_in::read_number(plate, at, left) else {
         return false;
     };
     value == 0

@@ -32,9 +32,9 @@ pub fn put_constant(out: &mut [u8], at: usize, c: i32) -> usize
     ensures { λ r. ⌜ (r, bytesBits (now (out .exit))) ≡ poured at (constantBits c) (bytesBits (now (out .entry))) ⌝ }
 {
     if is_short(c) {
-        let end = bits::put_bits(out, at, 2, 0);
-        return bits::put_bits(out, end, 16, to_bits(c) as usize);
+        let end = bits_out::put_bits(out, at, 2, 0);
+        return bits_out::put_bits(out, end, 16, to_bits(c) as usize);
     }
-    let end = bits::put_bits(out, at, 2, 1);
-    bits::put_bits(out, end, 32, to_bits(c) as usize)
+    let end = bits_out::put_bits(out, at, 2, 1);
+    bits_out::put_bits(out, end, 32, to_bits(c) as usize)
 }

@@ -43,7 +43,7 @@ fn put_rest(
         width += 7;
         i += 1;
     }
-    bits::put_bits(out, at, width + 7, value * 128 + 3)
+    bits_out::put_bits(out, at, width + 7, value * 128 + 3)
 }
 
 // The characters of a text in 7 bits each, then ETX.
@@ -54,7 +54,7 @@ pub fn put_spelled(out: &mut [u8], at: usize, text: &[u8]) -> usize
     let mut end = at;
     let mut i = 0;
     while i + 7 < text.len() {
-        end = bits::put_bits(out, end, 56, eight(text, i));
+        end = bits_out::put_bits(out, end, 56, eight(text, i));
         i += 8;
     }
     put_rest(out, end, 0, 0, text, i)
@@ -89,7 +89,7 @@ fn put_behind(
     ensures { λ r. ⌜ (r, bytesBits (now (out .exit))) ≡ poured at (bitsOf width front ++ bitsOf places i) (bytesBits (now (out .entry))) ⌝ }
 {
     let unit: usize = 1 << places;
-    bits::put_bits(out, at, width + places, front * unit + i % unit)
+    bits_out::put_bits(out, at, width + places, front * unit + i % unit)
 }
 
 // What goes before a phrase, `width` bits of a number; then 10, where both the book and the own phrases have some a bit that is 0 for the book
@@ -128,7 +128,7 @@ fn put_new(out: &mut [u8], at: usize, width: usize, front: usize, text: &[u8]) -
     if text.len() <= 5 {
         return put_rest(out, at, width + 2, front * 4, text, 0);
     }
-    let end = bits::put_bits(out, at, width + 2, front * 4);
+    let end = bits_out::put_bits(out, at, width + 2, front * 4);
     put_spelled(out, end, text)
 }
 

@@ -1,5 +1,5 @@
-// Tries the crate bits on the cases of its standard input: numbers read, also 56 bits at once, and written at any bit, inside a buffer,
-// across its end and far past it. Writes a line for each case; model/README.md has the format.
+// Tries the crates bits_in and bits_out on the cases of its standard input: numbers read, also 56 bits at once, and written at any bit,
+// inside a buffer, across its end and far past it. Writes a line for each case; model/README.md has the format.
 ghost use Prim.Native.Nat.{_≤_};
 use bits::Number;
 use bits::Wide;
@@ -17,7 +17,7 @@ fn put_value(line: &mut [u8], value: usize) -> usize {
 fn read_number(line: &mut [u8], bytes: &[u8], place: usize, width: usize) -> usize
     requires { ⌜ width ≤ 32 ⌝ }
 {
-    match bits::read_number(bytes, place, width) {
+    match bits_in::read_number(bytes, place, width) {
         Number::Is(value) => put_value(line, value as usize),
         Number::Ends => text_out::put(line, 0, b"N\n"),
     }
@@ -39,7 +39,7 @@ fn read_case(line: &mut [u8], s: &[u8], start: usize) -> usize {
 fn eight_case(line: &mut [u8], s: &[u8], start: usize) -> usize {
     let bytes = vectors::slice(s, start);
     let place = vectors::long_number(s, vectors::past_slice(s, start));
-    match bits::read_eight(bytes, place) {
+    match bits_in::read_eight(bytes, place) {
         Wide::Is(value) => put_value(line, value),
         Wide::Short => text_out::put(line, 0, b"N\n"),
     }
@@ -50,7 +50,7 @@ fn write_number(line: &mut [u8], out: &mut [u8], place: usize, width: usize, val
     requires { ⌜ width ≤ 56 ⌝ }
 {
     vectors_buffer::fill(out);
-    let behind = bits::put_bits(out, place, width, value);
+    let behind = bits_out::put_bits(out, place, width, value);
     let end = text_out::put_natural(line, 0, behind);
     let end = text_out::put_byte(line, end, b',');
     let end = vectors_buffer::put_buffer(line, end, out);

@@ -23,7 +23,7 @@ fn put_code(out: &mut [u8], at: usize, code: usize, register: usize) -> usize
     requires { ⌜ code ≤ 7 ⌝ }
     ensures { λ r. ⌜ (r, bytesBits (now (out .exit))) ≡ poured at (bitsOf 3 code ++ bitsOf 5 register) (bytesBits (now (out .entry))) ⌝ }
 {
-    bits::put_bits(out, at, 8, code * 32 + register % 32)
+    bits_out::put_bits(out, at, 8, code * 32 + register % 32)
 }
 
 // The number of an OP.
@@ -75,7 +75,7 @@ pub fn put_inputs(
     let front = 32 + register % 32;
     let question = text::part(line, b',', 2);
     let mut end = put_text(out, at, 8, front, question, index, book, own, count);
-    end = bits::put_bits(out, end, 3, options - 2);
+    end = bits_out::put_bits(out, end, 3, options - 2);
     put_texts(out, end, line, 3, index, book, own, count)
 }
 
@@ -116,7 +116,7 @@ pub fn put_goto(out: &mut [u8], at: usize, skip: usize) -> usize
     requires { ⌜ length (now out) ≤ 2953 ⌝ }
     ensures { λ r. ⌜ (r, bytesBits (now (out .exit))) ≡ poured at (bitsOf 3 4 ++ bitsOf 9 skip) (bytesBits (now (out .entry))) ⌝ }
 {
-    bits::put_bits(out, at, 12, 2048 + skip % 512)
+    bits_out::put_bits(out, at, 12, 2048 + skip % 512)
 }
 
 // An if. The phrases do not matter.
@@ -126,7 +126,7 @@ pub fn put_if(out: &mut [u8], at: usize, test: Test, skip: usize) -> usize
 {
     let op = test.op;
     let mut end = put_code(out, at, 5, test.register);
-    end = bits::put_bits(out, end, 3, op_code(op));
+    end = bits_out::put_bits(out, end, 3, op_code(op));
     end = put_constant(out, end, test.constant);
-    bits::put_bits(out, end, 9, skip)
+    bits_out::put_bits(out, end, 9, skip)
 }

@@ -1,10 +1,10 @@
--- `bits::byte_at` meets its contract: behind the last byte the list has its default. Assumes nothing.
+-- `bits_ahead::byte_at` meets its contract: behind the last byte the list has its default. Assumes nothing.
 use lib.ListN.{List·getD-eq-default}
 use mathlib.Core.Path.{refl, sym}
 use native.Mathlib.Omega.{arith}
 use borrow.Author.Needs.{needs}
-use Rattle.bits.proofs.byte_at.Statement.{statement}
-use Rattle.bits.proofs.byte_at.Tie as tie
+use Rattle.bits_ahead.proofs.byte_at.Statement.{statement}
+use Rattle.bits_ahead.proofs.byte_at.Tie as tie
 
 shared-slice-read-result : tie.Need-shared-slice-read-result
 shared-slice-read-result c = search needs

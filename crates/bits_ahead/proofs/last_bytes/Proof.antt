@@ -1,10 +1,10 @@
--- `bits::last_bytes` meets its contract: nothing on the way to the number is too large. Assumes nothing.
+-- `bits_ahead::last_bytes` meets its contract: nothing on the way to the number is too large. Assumes nothing.
 use native.Mathlib.Omega.{arith}
 use Rattle.bits.proofs.Words.{FourBelow}
-use Rattle.bits.proofs.Ahead.{four-value}
+use Rattle.bits_ahead.proofs.Ahead.{four-value}
 use borrow.Author.Needs.{needs}
-use Rattle.bits.proofs.last_bytes.Statement.{statement}
-use Rattle.bits.proofs.last_bytes.Tie as tie
+use Rattle.bits_ahead.proofs.last_bytes.Statement.{statement}
+use Rattle.bits_ahead.proofs.last_bytes.Tie as tie
 
 byte-at-requires : tie.Need-byte-at-requires
 byte-at-requires c κs = search needs

@@ -1,17 +1,17 @@
--- `bits::number_ahead` meets its contract: the number is there, or too few bits are left. Assumes nothing.
+-- `bits_ahead::number_ahead` meets its contract: the number is there, or too few bits are left. Assumes nothing.
 use Prim.Native.Nat.{_+_, _-_, _*_, _≤_}
 use mathlib.Core.Path.{sym, ap, _∙_}
 use native.Mathlib.Omega.{arith}
 use lib.ListN.{length, drop, length-drop}
 use Rattle.bits.specs.declared.Number.the-variants.{Is}
 use Rattle.bits.specs.Bits.{bytesBits}
 use Rattle.bits.specs.Ahead.{partAhead}
 use Rattle.bits.proofs.Bytes.{length-bytesBits}
 use Rattle.bits.proofs.Reading.{number-in, number-none}
-use Rattle.bits.proofs.Ahead.{part-value}
+use Rattle.bits_ahead.proofs.Ahead.{part-value}
 use borrow.Author.Needs.{needs}
-use Rattle.bits.proofs.number_ahead.Statement.{statement}
-use Rattle.bits.proofs.number_ahead.Tie as tie
+use Rattle.bits_ahead.proofs.number_ahead.Statement.{statement}
+use Rattle.bits_ahead.proofs.number_ahead.Tie as tie
 
 mul-left-of : tie.Need-mul-left-of
 mul-left-of c = search needs

@@ -1,12 +1,12 @@
--- `bits::part_ahead` meets its contract. Assumes nothing.
+-- `bits_ahead::part_ahead` meets its contract. Assumes nothing.
 use mathlib.Core.Path.{refl}
 use native.Mathlib.Nat.{mod-lt, lt-of-lt-of-le}
 use native.Mathlib.Omega.{arith}
 use lib.Pow.{pow-pos, pow-mono}
 use Rattle.bits.specs.Ahead.{partAhead}
 use borrow.Author.Needs.{needs}
-use Rattle.bits.proofs.part_ahead.Statement.{statement}
-use Rattle.bits.proofs.part_ahead.Tie as tie
+use Rattle.bits_ahead.proofs.part_ahead.Statement.{statement}
+use Rattle.bits_ahead.proofs.part_ahead.Tie as tie
 
 sub-two-to : tie.Need-sub-two-to
 sub-two-to c = search needs

@@ -1,9 +1,9 @@
--- `bits::read_ahead` meets its contract: 25 bits of four bytes. Assumes nothing.
+-- `bits_ahead::read_ahead` meets its contract: 25 bits of four bytes. Assumes nothing.
 use mathlib.Core.Path.{_∙_}
-use Rattle.bits.proofs.Ahead.{four-there, ahead-value}
+use Rattle.bits_ahead.proofs.Ahead.{four-there, ahead-value}
 use borrow.Author.Needs.{needs}
-use Rattle.bits.proofs.read_ahead.Statement.{statement}
-use Rattle.bits.proofs.read_ahead.Tie as tie
+use Rattle.bits_ahead.proofs.read_ahead.Statement.{statement}
+use Rattle.bits_ahead.proofs.read_ahead.Tie as tie
 
 add-if1 : tie.Need-add-if1
 add-if1 c = search needs

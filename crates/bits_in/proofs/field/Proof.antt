@@ -1,8 +1,8 @@
--- `bits::field` meets its contract: a quotient and a remainder by powers of two are the bits between them. Assumes nothing.
+-- `bits_in::field` meets its contract: a quotient and a remainder by powers of two are the bits between them. Assumes nothing.
 use borrow.Author.Needs.{needs}
 use Rattle.bits.proofs.Fields.{field-at}
-use Rattle.bits.proofs.field.Statement.{statement}
-use Rattle.bits.proofs.field.Tie as tie
+use Rattle.bits_in.proofs.field.Statement.{statement}
+use Rattle.bits_in.proofs.field.Tie as tie
 
 sub-two-to : tie.Need-sub-two-to
 sub-two-to c = search needs

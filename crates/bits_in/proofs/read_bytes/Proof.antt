@@ -1,17 +1,17 @@
--- `bits::read_bytes` meets its contract. The loop's invariant: what is read and what is left make the whole number.
+-- `bits_in::read_bytes` meets its contract. The loop's invariant: what is read and what is left make the whole number.
 -- The measure is what is left. Assumes nothing.
 use Prim.Native.Nat.{ℕ, _+_, _-_, _*_, _/_, _%_, _≤_, _<_}
 use mathlib.Core.Path.{_≡_, sym, ap, _∙_}
 use native.Mathlib.Omega.{arith}
 use lib.ListN.{drop, length-drop}
 use borrow.Author.Needs.{needs}
 use Rattle.bits.specs.declared.Number.the-variants.{Is}
 use Rattle.bits.specs.Bits.{bytesBits}
 use Rattle.bits.proofs.Bytes.{length-bytesBits}
 use Rattle.bits.proofs.Turns.{PartRead, read-start, read-turn, read-below, read-end}
 use Rattle.bits.proofs.Reading.{number-in, number-none}
-use Rattle.bits.proofs.read_bytes.Statement.{statement}
-use Rattle.bits.proofs.read_bytes.Tie as tie
+use Rattle.bits_in.proofs.read_bytes.Statement.{statement}
+use Rattle.bits_in.proofs.read_bytes.Tie as tie
 
 abbrev Inv-loop : tie.InvT-loop
 Inv-loop bytes at width value₀ index₀ bit₀ left₀ value index bit left =

@@ -1,13 +1,13 @@
--- `bits::read_eight` meets its contract: 56 of the bits of eight bytes. Assumes nothing.
+-- `bits_in::read_eight` meets its contract: 56 of the bits of eight bytes. Assumes nothing.
 use Prim.Native.Nat.{_-_, _%_, _^_}
 use mathlib.Core.Path.{_≡_, refl, sym, ap, _∙_}
 use native.Mathlib.Omega.{arith}
 use borrow.Author.Needs.{needs}
 use Rattle.bits.specs.declared.Wide.the-variants.{Is}
 use Rattle.bits.proofs.Reading.{wide-in, wide-none}
 use Rattle.bits.proofs.Words.{word-field}
-use Rattle.bits.proofs.read_eight.Statement.{statement}
-use Rattle.bits.proofs.read_eight.Tie as tie
+use Rattle.bits_in.proofs.read_eight.Statement.{statement}
+use Rattle.bits_in.proofs.read_eight.Tie as tie
 
 add-if1 : tie.Need-add-if1
 add-if1 c = search needs

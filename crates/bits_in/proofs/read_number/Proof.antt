@@ -1,15 +1,15 @@
--- `bits::read_number` meets its contract: the bits of a word, or byte by byte. Assumes nothing.
+-- `bits_in::read_number` meets its contract: the bits of a word, or byte by byte. Assumes nothing.
 use mathlib.Core.Path.{sym, ap, _∙_}
 use native.Mathlib.Omega.{arith}
 use lib.ListN.{drop, length-drop}
 use borrow.Author.Needs.{needs}
 use Rattle.bits.specs.declared.Number.the-variants.{Is}
 use Rattle.bits.specs.Bits.{bytesBits}
 use Rattle.bits.proofs.Bytes.{length-bytesBits}
 use Rattle.bits.proofs.Reading.{number-in}
 use Rattle.bits.proofs.Words.{word-below, word-field}
-use Rattle.bits.proofs.read_number.Statement.{statement}
-use Rattle.bits.proofs.read_number.Tie as tie
+use Rattle.bits_in.proofs.read_number.Statement.{statement}
+use Rattle.bits_in.proofs.read_number.Tie as tie
 
 add-if2 : tie.Need-add-if2
 add-if2 c = search needs

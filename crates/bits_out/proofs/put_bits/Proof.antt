@@ -1,8 +1,8 @@
--- `bits::put_bits` meets its contract: behind the end, or within. Assumes nothing.
-use Rattle.bits.proofs.Writing.{all-written, none-written}
+-- `bits_out::put_bits` meets its contract: behind the end, or within. Assumes nothing.
+use Rattle.bits_out.proofs.Writing.{all-written, none-written}
 use borrow.Author.Needs.{needs}
-use Rattle.bits.proofs.put_bits.Statement.{statement}
-use Rattle.bits.proofs.put_bits.Tie as tie
+use Rattle.bits_out.proofs.put_bits.Statement.{statement}
+use Rattle.bits_out.proofs.put_bits.Tie as tie
 
 sum-requires : tie.Need-sum-requires
 sum-requires c κs = search needs

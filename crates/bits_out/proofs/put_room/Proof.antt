@@ -1,8 +1,8 @@
--- `bits::put_room` meets its contract: of the bits, those that have room are stored. Assumes nothing.
+-- `bits_out::put_room` meets its contract: of the bits, those that have room are stored. Assumes nothing.
 use borrow.Author.Needs.{needs}
-use Rattle.bits.proofs.Writing.{room-written}
-use Rattle.bits.proofs.put_room.Statement.{statement}
-use Rattle.bits.proofs.put_room.Tie as tie
+use Rattle.bits_out.proofs.Writing.{room-written}
+use Rattle.bits_out.proofs.put_room.Statement.{statement}
+use Rattle.bits_out.proofs.put_room.Tie as tie
 
 room-requires : tie.Need-room-requires
 room-requires c κs = search needs

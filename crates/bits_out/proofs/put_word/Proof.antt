@@ -1,9 +1,9 @@
--- `bits::put_word` meets its contract: eight bytes with their new bits, or as many as there are. Assumes nothing.
+-- `bits_out::put_word` meets its contract: eight bytes with their new bits, or as many as there are. Assumes nothing.
 use native.Mathlib.Omega.{arith}
-use Rattle.bits.proofs.WordWriting.{word-written}
+use Rattle.bits_out.proofs.WordWriting.{word-written}
 use borrow.Author.Needs.{needs}
-use Rattle.bits.proofs.put_word.Statement.{statement}
-use Rattle.bits.proofs.put_word.Tie as tie
+use Rattle.bits_out.proofs.put_word.Statement.{statement}
+use Rattle.bits_out.proofs.put_word.Tie as tie
 
 add-if2 : tie.Need-add-if2
 add-if2 c = search needs

@@ -1,13 +1,13 @@
--- `bits::store` meets its contract. The loop's invariant: writing what is left makes the whole.
+-- `bits_out::store` meets its contract. The loop's invariant: writing what is left makes the whole.
 -- The measure is what is left. Assumes nothing.
 use Prim.Native.Nat.{_+_, _*_, _/_, _%_, _≤_, _<_}
 use mathlib.Core.Path.{_≡_}
 use native.Mathlib.Omega.{arith}
 use lib.ListN.{length}
 use borrow.Author.Needs.{needs}
 use Rattle.bits.proofs.Turns.{PartWritten, write-start, write-turn, write-end}
-use Rattle.bits.proofs.store.Statement.{statement}
-use Rattle.bits.proofs.store.Tie as tie
+use Rattle.bits_out.proofs.store.Statement.{statement}
+use Rattle.bits_out.proofs.store.Tie as tie
 
 abbrev Inv-loop : tie.InvT-loop
 Inv-loop out₀ at width value index₀ bit₀ left₀ out index bit left =

@@ -1,14 +1,14 @@
--- `bits::store_word` meets its contract: each byte is 8 bits of the number. Assumes nothing.
+-- `bits_out::store_word` meets its contract: each byte is 8 bits of the number. Assumes nothing.
 use Prim.Native.Nat.{_+_, _*_, _/_, _%_}
 use mathlib.Core.Path.{refl}
 use native.Mathlib.Omega.{arith}
 use lib.ListN.{length-set}
 use Rattle.bits.proofs.Fields.{low-bits}
 use Rattle.bits.proofs.Turns.{write-start, write-end}
-use Rattle.bits.proofs.WordWriting.{byte-turn, byte-low}
+use Rattle.bits_out.proofs.WordWriting.{byte-turn, byte-low}
 use borrow.Author.Needs.{needs}
-use Rattle.bits.proofs.store_word.Statement.{statement}
-use Rattle.bits.proofs.store_word.Tie as tie
+use Rattle.bits_out.proofs.store_word.Statement.{statement}
+use Rattle.bits_out.proofs.store_word.Tie as tie
 
 cast-out : tie.Need-cast-out
 cast-out c = search needs

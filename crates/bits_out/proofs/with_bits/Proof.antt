@@ -1,10 +1,10 @@
--- `bits::with_bits` meets its contract: the new bits between the high and the low bits of the number. Assumes nothing.
+-- `bits_out::with_bits` meets its contract: the new bits between the high and the low bits of the number. Assumes nothing.
 use Prim.Native.Nat.{ℕ, _+_, _*_, _/_, _%_, _≤_, _<_}
 use native.Mathlib.Omega.{arith}
 use Rattle.bits.proofs.Fields.{field-set, field-below}
 use borrow.Author.Needs.{needs}
-use Rattle.bits.proofs.with_bits.Statement.{statement}
-use Rattle.bits.proofs.with_bits.Tie as tie
+use Rattle.bits_out.proofs.with_bits.Statement.{statement}
+use Rattle.bits_out.proofs.with_bits.Tie as tie
 
 module _ (c : tie.After-two-to2) where
   abbrev start : tie.Start

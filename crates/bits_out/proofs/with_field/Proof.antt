@@ -1,10 +1,10 @@
--- `bits::with_field` meets its contract: the new bits between the high and the low bits of the byte. Assumes nothing.
+-- `bits_out::with_field` meets its contract: the new bits between the high and the low bits of the byte. Assumes nothing.
 use Prim.Native.Nat.{ℕ, _+_, _*_, _/_, _%_, _≤_, _<_}
 use native.Mathlib.Omega.{arith}
 use borrow.Author.Needs.{needs}
 use Rattle.bits.proofs.Fields.{field-set, field-below}
-use Rattle.bits.proofs.with_field.Statement.{statement}
-use Rattle.bits.proofs.with_field.Tie as tie
+use Rattle.bits_out.proofs.with_field.Statement.{statement}
+use Rattle.bits_out.proofs.with_field.Tie as tie
 
 module _ (c : tie.After-two-to2) where
   abbrev start : tie.Start

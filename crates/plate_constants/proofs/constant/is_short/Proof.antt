@@ -1,10 +1,11 @@
 -- `is_short` meets its contract.
+use mathlib.Core.Path.{refl}
 use mir.Facts.{toZ-ofZ}
 use Rattle.plate_constants.proofs.constant.is_short.Statement.{statement}
 use Rattle.plate_constants.proofs.constant.is_short.Tie as tie
 
 returns : tie.Need-returns
-returns c = let k = toZ-ofZ (c .before .fits .constant) in simp (k, rw k at (c .if1 .taken))
+returns c = let k = toZ-ofZ (c .before .fits .constant) in simp (k, rw k at (c .if1 .taken)) refl
 
 returns-2 : tie.Need-returns-2
 returns-2 c = let k = toZ-ofZ (c .before .fits .constant) in simp (rw k at (c .if1 .left))

@@ -1,57 +1,43 @@
 // The head of an instruction of a plate that was read before: what stands in front of its texts. Nothing is judged again.
 ghost use mathlib.Core.Path.{_≡_};
-ghost use Prim.Native.Nat.{ℕ, _+_, _≤_, _<_};
+ghost use Prim.Native.Nat.{ℕ, _+_, _*_, _≤_, _<_};
 ghost use lib.ListN.{length};
-ghost use Rattle.bits.specs.Ahead.{aheadIn};
+ghost use Rattle.bits.specs.Ahead.{aheadIn, partAhead};
 ghost use Rattle.phrases.specs.Phrases.{Phrases};
 ghost use Rattle.phrases.specs.Lookup.{phrasesIn};
 ghost use Rattle.plate.specs.Program.{ifSkip};
 ghost use Rattle.plate.specs.Reading.{got};
-ghost use Rattle.plate.specs.Plate.{fieldsBy, instruction};
+ghost use Rattle.plate.specs.Plate.{signed, fieldsBy, instruction};
 ghost use Rattle.fields.specs.Places.{placeAt, endWith, Known};
 ghost use Rattle.plate_texts.specs.TextsAt.{Lent};
 ghost use Rattle.instructions.specs.Heads.{headed, HeadFits};
 use crate::Head;
 use crate::IfRead;
-use fields::Field;
-use fields::TestRead;
-use fields::read_plain;
 use plate_constants::op_of;
-use plate_constants::read_test;
 use plate_constants::signed;
 use plate_texts::copy_options;
 use plate_texts::copy_text;
 use transcript::Op;
 use transcript::Test;
 
-// An if with a constant of 32 bits. Never refused: it was read before.
-fn long_if(plate: &[u8], at: usize) -> IfRead
-    requires { ⌜ length (now plate) ≤ 2953 ⌝ }
-    ensures { λ r. ⌜ ((c : Phrases) (behind : ℕ) → Known (fieldsBy c behind 5 (placeAt (now (plate .entry)) at)) → got (ifSkip (r .test) (r .skip)) (placeAt (now (plate .entry)) (r .next)) ≡ fieldsBy c behind 5 (placeAt (now (plate .entry)) at)) ⌝ }
-    ensures { λ r. ⌜ (r .test .register < 32) × (r .skip < 512) ⌝ }
+// An if with a constant of 32 bits, whose upper half was read: the lower half and the skip are 25 bits more.
+fn long_if(plate: &[u8], at: usize, register: usize, op: Op, high: usize) -> IfRead
+    requires { ⌜ (length (now plate) ≤ 2953) × (at ≤ 23624) × (high < 65536) ⌝ }
+    ensures { λ r. ⌜ (r .test .register ≡ register) × (r .test .op ≡ op) × (r .test .constant ≡ signed 32 (high * 65536 + partAhead 0 16 (aheadIn (now (plate .entry)) (at + 29)))) ⌝ }
+    ensures { λ r. ⌜ (r .skip ≡ partAhead 16 9 (aheadIn (now (plate .entry)) (at + 29))) × (r .next ≡ at + 54) ⌝ }
 {
-    let first = read_test(plate, at);
-    let TestRead::Is(test, skip_at) = first else {
-        let test = Test {
-            register: 0,
-            op: Op::Eq,
-            constant: 0,
-        };
-        return IfRead {
-            test,
-            skip: 0,
-            next: at,
-        };
+    let lower = bits_ahead::read_ahead(plate, at + 29);
+    let constant = signed(high * 65536 + bits_ahead::part_ahead(lower, 0, 16), 2147483648);
+    let test = Test {
+        register,
+        op,
+        constant,
     };
-    let second = read_plain(plate, skip_at, 9);
-    let Field::Is(skip, next) = second else {
-        return IfRead {
-            test,
-            skip: 0,
-            next: at,
-        };
-    };
-    IfRead { test, skip, next }
+    IfRead {
+        test,
+        skip: bits_ahead::part_ahead(lower, 16, 9),
+        next: at + 54,
+    }
 }
 
 // An if that was read before, at its bit, with the 25 bits that were read ahead there: its register, OP and the code of its constant lie in
@@ -61,13 +47,14 @@ pub fn accepted_if(plate: &[u8], at: usize, ahead: usize) -> IfRead
     ensures { λ r. ⌜ ((c : Phrases) (behind : ℕ) → Known (fieldsBy c behind 5 (placeAt (now (plate .entry)) (at + 3))) → got (ifSkip (r .test) (r .skip)) (placeAt (now (plate .entry)) (r .next)) ≡ fieldsBy c behind 5 (placeAt (now (plate .entry)) (at + 3))) ⌝ }
     ensures { λ r. ⌜ (r .test .register < 32) × (r .skip < 512) ⌝ }
 {
-    if bits_ahead::part_ahead(ahead, 11, 2) != 0 {
-        return long_if(plate, at + 3);
-    }
     let register = bits_ahead::part_ahead(ahead, 3, 5);
     let op = op_of(bits_ahead::part_ahead(ahead, 8, 3));
     let behind = bits_ahead::read_ahead(plate, at + 13);
-    let constant = signed(bits_ahead::part_ahead(behind, 0, 16), 32768);
+    let first = bits_ahead::part_ahead(behind, 0, 16);
+    if bits_ahead::part_ahead(ahead, 11, 2) != 0 {
+        return long_if(plate, at, register, op, first);
+    }
+    let constant = signed(first, 32768);
     let test = Test {
         register,
         op,

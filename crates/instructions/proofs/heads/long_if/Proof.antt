@@ -1,64 +1,56 @@
--- `long_if` meets its contract: the test, then the skip, which is good where the instruction is.
-use mathlib.Core.Path.{_∙_}
+-- `long_if` meets its contract: the lower half of the constant and the skip are parts of the bits that are read ahead.
+use Prim.Native.Nat.{_+_, _*_, _^_, _<_}
+use mathlib.Core.Path.{refl, ap, _∙_}
 use native.Mathlib.Omega.{arith}
-use Rattle.plate.specs.Reading.{return}
-use Rattle.fields.specs.Places.{testRead, testRefusal}
-use Rattle.plate.proofs.Readers.{gives-number}
-use Rattle.plate.proofs.Instructions.{gives-test}
-use Rattle.fields.proofs.Onward.{then-got, then-stopped, got-good}
-use Rattle.fields.proofs.Answers.{answered, field-got, field-refused, test-got}
-use Rattle.plate_texts.proofs.Known.{known-first, known-then}
-use Rattle.instructions.proofs.HeadRead.{skip-read}
+use Rattle.bits.specs.Ahead.{partAhead}
+use Rattle.plate.specs.Plate.{signed}
+use Rattle.plate_constants.proofs.SignedRead.{held}
+use Rattle.instructions.proofs.PartRead.{part-below}
 use borrow.Author.Needs.{needs}
 use Rattle.instructions.proofs.heads.long_if.Statement.{statement}
 use Rattle.instructions.proofs.heads.long_if.Tie as tie
 
-read-test-requires : tie.Need-read-test-requires
-read-test-requires c κs = search needs
+add-read-ahead : tie.Need-add-read-ahead
+add-read-ahead c = search needs
 
-enum-known-first : tie.Need-enum-known-first
-enum-known-first c = search needs
+read-ahead-requires : tie.Need-read-ahead-requires
+read-ahead-requires c κs = search needs
 
-enum-told : tie.Need-enum-told
-enum-told c = search needs
+mul-signed : tie.Need-mul-signed
+mul-signed c = search needs
+
+part-ahead-requires : tie.Need-part-ahead-requires
+part-ahead-requires c κs = search needs
+
+add-signed : tie.Need-add-signed
+add-signed c = search needs
+
+signed-requires : tie.Need-signed-requires
+signed-requires c κs = (omega (arith, part-below 0 16 _ (c .part-ahead .ensures .0), c .before .before .before .pre .2), search needs)
+
+part-ahead-requires-2 : tie.Need-part-ahead-requires-2
+part-ahead-requires-2 c κs = search needs
+
+add-t11 : tie.Need-add-t11
+add-t11 c = search needs
 
 returns : tie.Need-returns
-returns c = (λ ph behind w. absurd (w .good (then-stopped _ _ _ (answered (testRead _) testRefusal (c .before .before .read-test .ensures) (c .enum-told .given .1)))), search needs)
-
-read-plain-requires : tie.Need-read-plain-requires
-read-plain-requires c κs = search needs
-
-enum-known-second : tie.Need-enum-known-second
-enum-known-second c = search needs
-
-enum-told-2 : tie.Need-enum-told-2
-enum-told-2 c = search needs
-
-returns-2 : tie.Need-returns-2
-returns-2 c = let t = test-got _ _ (c .before .before .before .before .before .before .read-test .ensures) (c .before .before .before .before .first .given .1) in (
-  λ ph behind w. let k = known-first _ _ _ (known-then _ _ _ w t) in
-      absurd (k .good (field-refused _ _ (c .before .before .read-plain .ensures) (c .enum-told2 .given .1) ∙ skip-read _ _ _ k)),
-  (got-good _ gives-test t .0, search needs),
-)
-
-returns-3 : tie.Need-returns-3
-unfolding return
-returns-3 c = let t = test-got _ _ (c .before .before .before .before .before .before .before .read-test .ensures) (c .before .before .before .before .before .first .given .1) in
-    let e = field-got _ _ (c .before .before .before .read-plain .ensures) (c .before .second .given .1) in (
-      λ ph behind w. then-got _ _ _ (e ∙ skip-read _ _ _ (known-first _ _ _ (known-then _ _ _ w t))) ∙ then-got _ _ _ t,
-      (got-good _ gives-test t .0, omega (arith, got-good _ (gives-number 9) e)),
-    )
+returns c =
+    let s = c .before .before .before .before .before in
+    let is = c .before .before .part-ahead .ensures .0 ∙ ap (partAhead 0 16) (c .before .before .before .read-ahead .ensures) in
+    let below : s .args .high * 65536 + c .before .before .part-ahead .result < 2 ^ 32 = omega (arith, part-below 0 16 _ (c .before .before .part-ahead .ensures .0), s .pre .2) in
+    ((refl, refl, held 32 refl (omega arith) _ _ below (c .before .signed .ensures) ∙ ap (λ x. signed 32 (s .args .high * 65536 + x)) is), (c .part-ahead2 .ensures .0 ∙ ap (partAhead 16 9) (c .before .before .before .read-ahead .ensures), refl))
 
 pub long-if-spec : {M : Type 1} → statement M
 long-if-spec =
     tie.close
     (tie.spec
-    read-test-requires
-    enum-known-first
-    enum-told
-    returns
-    read-plain-requires
-    enum-known-second
-    enum-told-2
-    returns-2
-    returns-3)
+    add-read-ahead
+    read-ahead-requires
+    mul-signed
+    part-ahead-requires
+    add-signed
+    signed-requires
+    part-ahead-requires-2
+    add-t11
+    returns)

@@ -53,6 +53,10 @@ behind-none v digits left k b h l =
     let is : left % 10 ≡ left = omega arith in
     at ∙ sym (b .found ∙ rw (decimalℕ-one left l, is))
 
+-- a number of one digit
+pub one-digit : (v : ℕ) → v < 10 → decimalℕ v ≡ (48 + v) ∷ []
+one-digit v h = let is : v % 10 ≡ v = omega arith in rw is at (decimalℕ-one v h)
+
 -- all that stands from the place k on
 pub from-place : (digits : List ℕ) (k : ℕ) → take (length digits - k) (drop k digits) ≡ drop k digits
 from-place digits k = take-all (length digits - k) (drop k digits) (omega (arith, length-drop k digits))

@@ -64,10 +64,13 @@ fn put_from(out: &mut [u8], at: usize, digits: &[u8], k: usize) -> usize
     put(out, at, &digits[k..])
 }
 
-// A number from 0 on, the highest digit first. The digits are found from the last one on.
+// A number from 0 on, the highest digit first. One digit is put at once; several are found from the last one on.
 pub fn put_natural(out: &mut [u8], at: usize, v: usize) -> usize
     ensures { λ r. ⌜ (r, now (out .exit)) ≡ poured at (decimalℕ v) (now (out .entry)) ⌝ }
 {
+    if v < 10 {
+        return put_byte(out, at, b'0' + v as u8);
+    }
     let mut digits = [0u8; 20];
     let mut left = v;
     let mut k = 19;

@@ -1,9 +1,9 @@
--- `put_natural` meets its contract: the digits behind the place k are found, from the last one on.
+-- `put_natural` meets its contract: one digit, or the digits behind the place k are found, from the last one on.
 use native.Mathlib.Omega.{arith}
 use mathlib.Core.Path.{_≡_}
 use lib.ListN.{length, length-set}
 use borrow.Author.Needs.{needs}
-use Rattle.text_out.proofs.Digits.{Behind, behind-all, place-left, behind-more, behind-none}
+use Rattle.text_out.proofs.Digits.{Behind, behind-all, place-left, behind-more, behind-none, one-digit}
 use Rattle.text_out.proofs.write.put_natural.Statement.{statement}
 use Rattle.text_out.proofs.write.put_natural.Tie as tie
 
@@ -12,6 +12,21 @@ Inv-loop out at v digits₀ left₀ k₀ digits left k = Behind v digits left k 
 
 abbrev μ-loop : tie.MeasureT-loop
 μ-loop out at v digits₀ left₀ k₀ digits left k = left
+
+cast-put-byte : tie.Need-cast-put-byte Inv-loop μ-loop
+cast-put-byte c = search needs
+
+add-put-byte : tie.Need-add-put-byte Inv-loop μ-loop
+add-put-byte c = search needs
+
+put-byte-requires : tie.Need-put-byte-requires Inv-loop μ-loop
+put-byte-requires c κs = search needs
+
+same-length : tie.Need-same-length Inv-loop μ-loop
+same-length c = search needs
+
+returns : tie.Need-returns Inv-loop μ-loop
+returns c = rw (one-digit _ (c .before .before .before .before .if1 .taken)) (c .before .before .put-byte .ensures)
 
 loop-holds : tie.Need-loop-holds Inv-loop μ-loop
 loop-holds c = (behind-all _ _ (search needs) (search needs), search needs)
@@ -51,11 +66,11 @@ put-from-requires c κs =
     let l = c .before .before .before in
     rw length-set (omega (arith, l .loop .inv .0 .place, l .loop .inv .1))
 
-same-length : tie.Need-same-length Inv-loop μ-loop
-same-length c = search needs
+same-length-2 : tie.Need-same-length-2 Inv-loop μ-loop
+same-length-2 c = search needs
 
-returns : tie.Need-returns Inv-loop μ-loop
-returns c =
+returns-2 : tie.Need-returns-2 Inv-loop μ-loop
+returns-2 c =
     let l = c .before .before .before .before .before .before in
     rw (behind-none _ _ _ _ (l .loop .inv .0) (l .loop .inv .1) (c .before .before .before .before .before .loop-test .left)) at (c .before .before .put-from .ensures)
 
@@ -65,6 +80,11 @@ put-natural-spec =
     (tie.spec
     Inv-loop
     μ-loop
+    cast-put-byte
+    add-put-byte
+    put-byte-requires
+    same-length
+    returns
     loop-holds
     cast-digits
     add-digits
@@ -77,5 +97,5 @@ put-natural-spec =
     array-write-digits-2
     slice-aggregate-put-from
     put-from-requires
-    same-length
-    returns)
+    same-length-2
+    returns-2)

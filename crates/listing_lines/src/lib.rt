@@ -87,7 +87,7 @@ fn put_printex<'a>(
     put_text_line(plate, at, index, book, own, count, b"printex,", tail)
 }
 
-// The front of a question's line: a word with its comma, a register and a text.
+// A question's register, a comma and its text, behind the word of the line.
 fn put_question<'a>(
     plate: &[u8],
     at: usize,
@@ -95,16 +95,15 @@ fn put_question<'a>(
     book: &'a [u8],
     own: &'a [u8],
     count: usize,
-    word: &[u8],
     register: usize,
     tail: &mut [u8],
+    from: usize,
 ) -> Copied
     requires { ⌜ Lent (now plate) (now index) (now book) (now own) count × (register < 32) × Known (reader.text (phrasesIn (now book) (now own) count) (placeAt (now plate) at)) ⌝ }
-    ensures { λ r. ⌜ (r .end, now (tail .exit)) ≡ poured 0 ((now (word .entry) ++ decimalℕ register) ++ (comma ∷ valuesOf (reader.text (phrasesIn (now (book .entry)) (now (own .entry)) count) (placeAt (now (plate .entry)) at)))) (now (tail .entry)) ⌝ }
+    ensures { λ r. ⌜ (r .end, now (tail .exit)) ≡ poured from (decimalℕ register ++ (comma ∷ valuesOf (reader.text (phrasesIn (now (book .entry)) (now (own .entry)) count) (placeAt (now (plate .entry)) at)))) (now (tail .entry)) ⌝ }
     ensures { λ r. ⌜ got 0 (placeAt (now (plate .entry)) (r .next)) ≡ endWith 0 (reader.text (phrasesIn (now (book .entry)) (now (own .entry)) count) (placeAt (now (plate .entry)) at)) ⌝ }
 {
-    let end = text_out::put(tail, 0, word);
-    let end = text_out::put_natural(tail, end, register);
+    let end = text_out::put_natural(tail, from, register);
     let text_at = text_out::put_byte(tail, end, b',');
     copy_text(plate, at, index, book, own, count, tail, text_at)
 }
@@ -124,17 +123,8 @@ fn put_input<'a>(
     ensures { λ r. ⌜ (r .end, now (tail .exit)) ≡ poured 0 (linesText (instructionFields (instructionOf (headed (now (plate .entry)) (phrasesIn (now (book .entry)) (now (own .entry)) count) (heads.Input register at))) ∷ [])) (now (tail .entry)) ⌝ }
     ensures { λ r. ⌜ got 0 (placeAt (now (plate .entry)) (r .next)) ≡ endWith 0 (headed (now (plate .entry)) (phrasesIn (now (book .entry)) (now (own .entry)) count) (heads.Input register at)) ⌝ }
 {
-    let asked = put_question(
-        plate,
-        at,
-        index,
-        book,
-        own,
-        count,
-        b"input,",
-        register,
-        tail,
-    );
+    let from = text_out::put(tail, 0, b"input,");
+    let asked = put_question(plate, at, index, book, own, count, register, tail, from);
     let end = text_out::put_byte(tail, asked.end, b'\n');
     Copied {
         end,
@@ -157,17 +147,8 @@ fn put_inputs<'a>(
     ensures { λ r. ⌜ (r .end, now (tail .exit)) ≡ poured 0 (linesText (instructionFields (instructionOf (headed (now (plate .entry)) (phrasesIn (now (book .entry)) (now (own .entry)) count) (heads.Inputs register at))) ∷ [])) (now (tail .entry)) ⌝ }
     ensures { λ r. ⌜ got 0 (placeAt (now (plate .entry)) (r .next)) ≡ endWith 0 (headed (now (plate .entry)) (phrasesIn (now (book .entry)) (now (own .entry)) count) (heads.Inputs register at)) ⌝ }
 {
-    let asked = put_question(
-        plate,
-        at,
-        index,
-        book,
-        own,
-        count,
-        b"inputs,",
-        register,
-        tail,
-    );
+    let from = text_out::put(tail, 0, b"inputs,");
+    let asked = put_question(plate, at, index, book, own, count, register, tail, from);
     let offered = copy_options(plate, asked.next, index, book, own, count, tail, asked.end);
     let end = text_out::put_byte(tail, offered.end, b'\n');
     Copied {

@@ -1,12 +1,9 @@
--- `put_question` meets its contract: four writings, each where the one before ended, are one.
+-- `put_question` meets its contract: three writings, each where the one before ended, are one.
 use native.Mathlib.Omega.{arith}
 use Rattle.output.proofs.Pour.{then}
 use borrow.Author.Needs.{needs}
 use Rattle.listing_lines.proofs.put_question.Statement.{statement}
 use Rattle.listing_lines.proofs.put_question.Tie as tie
-
-put-requires : tie.Need-put-requires
-put-requires c κs = search needs
 
 put-natural-requires : tie.Need-put-natural-requires
 put-natural-requires c κs = search needs
@@ -21,18 +18,12 @@ same-length : tie.Need-same-length
 same-length c = search needs
 
 returns : tie.Need-returns
-returns c = let fits = c .before .before .before .before .before .before .before .before .before .before .before .before .before .before .before .before .before .before .before .before .before .before .good in (
-  then _ _ _ _ _ _ _ (then _ _ _ _ _ _ _ (c .before .before .before .before .before .before .before .before .before .before .before .before .before .before .put .ensures) (c .before .before .before .before .before .before .before .before .before .before .put-natural .ensures) (omega (arith, fits))) (then _ _ _ _ _ _ _ (c .before .before .before .before .before .before .put-byte .ensures) (c .before .before .copy-text .ensures .0) (omega (arith, fits))) (omega (arith, fits)),
+returns c = let fits = c .before .before .before .before .before .before .before .before .before .before .before .before .before .before .before .before .before .good in (
+  then _ _ _ _ _ _ _ (c .before .before .before .before .before .before .before .before .before .before .put-natural .ensures) (then _ _ _ _ _ _ _ (c .before .before .before .before .before .before .put-byte .ensures) (c .before .before .copy-text .ensures .0) (omega (arith, fits))) (omega (arith, fits)),
   c .before .before .copy-text .ensures .1,
 )
 
 pub put-question-spec : {M : Type 1} → statement M
 put-question-spec =
     tie.close
-    (tie.spec
-    put-requires
-    put-natural-requires
-    put-byte-requires
-    copy-text-requires
-    same-length
-    returns)
+    (tie.spec put-natural-requires put-byte-requires copy-text-requires same-length returns)

@@ -1,13 +1,12 @@
--- What the check of a text says: no line has a cause by itself, and there are as many own phrases and instructions as it counted.
+-- What the check of a text says: no line has a cause by itself, and there are as many instructions as it counted.
 use Prim.Native.Nat.{ℕ, suc, _+_, _≤_}
 use native.Mathlib.Omega.{arith}
-use mathlib.Core.Path.{_≡_, ap, _∙_}
+use mathlib.Core.Path.{_≡_, ap}
 use mathlib.Core.List.{List, [], _∷_}
 use lib.ListN.{length, drop, getD, length-append}
 use borrow.Author.Tests.{le-leb}
 use Rattle.text.specs.Text.{Text}
 use Rattle.phrases.specs.Lookup.{ownTexts}
-use Rattle.phrases.specs.Index.{Indexed, Listed}
 use Rattle.lines.specs.declared.Form.{Form}
 use Rattle.lines.specs.declared.Checked.the-variants.{Fine}
 use Rattle.lines.specs.Line.{Line, phrase, says, ifLine, elseLine, fiLine, gotoLine, ifSkipLine, faulty}
@@ -51,26 +50,20 @@ module _ (form : Form) (book : List Text) (text : List ℕ) {own n : ℕ} (c : c
   holds = accepts form book text held (accept-is form text book c)
 
   -- what the check has seen at the end
-  seen-is : (length (holds .seen .own) ≡ own) × (holds .seen .instructions ≡ n)
+  seen-is : holds .seen .instructions ≡ n
   unfolding seenIn
   seen-is =
       let e = passes-check book 1 nothingSeen (holds .seen) (linesOf form text) (holds .passes) in
       let k : Fine (length (holds .seen .own)) (holds .seen .instructions) ≡ Fine own n = rw (le-leb (length text) (mostBytes form) (holds .size), e) at c in
-      (cc, cc)
+      cc
 
   pub few-bytes : length text ≤ mostBytes form
   few-bytes = holds .size
-
-  pub own-there : length (ownTexts own text) ≡ own
-  own-there = ap length (holds .own) ∙ seen-is .0
-
-  pub accepted-listed : {index bytes : List ℕ} → Indexed index bytes → Listed index bytes text own
-  accepted-listed i = (i, own-there, omega (arith, own-there, holds .few))
 
   pub accepted-counted : (skips : List ℕ) → Counted form skips text n
   accepted-counted skips =
       record {
         clean = passes-clean book 1 nothingSeen (holds .seen) (linesOf form text) (holds .passes);
-        count = omega (arith, lines-counted book 1 nothingSeen (holds .seen) skips (linesOf form text) (holds .passes), seen-is .1);
-        few = omega (arith, holds .room, seen-is .1);
+        count = omega (arith, lines-counted book 1 nothingSeen (holds .seen) skips (linesOf form text) (holds .passes), seen-is);
+        few = omega (arith, holds .room, seen-is);
       }

@@ -20,7 +20,7 @@ ghost use Prim.Native.Nat.{_≤_};
 ghost use lib.ListN.{length};
 ghost use Rattle.causes.specs.Answers.{writtenAnswer};
 ghost use Rattle.phrases.specs.Lookup.{bookTexts};
-ghost use Rattle.phrases.specs.Index.{Listed};
+ghost use Rattle.phrases.specs.Own.{Listed};
 ghost use Rattle.assemble.specs.LineCode.{programIn};
 ghost use Rattle.assemble.specs.Assembled.{Counted, lentProgram, Produced};
 

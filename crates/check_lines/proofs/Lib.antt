@@ -4,3 +4,6 @@ pub mod Room
 pub mod OwnFirst
 pub mod LinesPassed
 pub mod Answers
+pub mod PhraseLines
+pub mod OwnEntered
+pub mod NumbersOn

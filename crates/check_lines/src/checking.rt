@@ -1,15 +1,19 @@
 // The check of a whole guide or listing.
 ghost use mathlib.Core.Path.{_≡_};
+ghost use Prim.Native.Nat.{ℕ, _+_, _≤_};
 ghost use mathlib.Core.List.{List};
 ghost use lib.ListN.{length};
 ghost use Rattle.text.specs.Text.{Text};
 ghost use Rattle.phrases.specs.Lookup.{bookTexts};
 ghost use Rattle.phrases.specs.Index.{Indexed};
+ghost use Rattle.phrases.specs.Own.{Listed, OwnKept};
+ghost use Rattle.lines.specs.declared.Checked.the-variants.{Fine};
 ghost use Rattle.lines.specs.Check.{nothingSeen, checkFrom, atEnd, linesOf, mostBytes};
 ghost use Rattle.lines.specs.Answers.{seenIn, checkedAnswer};
 ghost use Rattle.check_lines.specs.Held.{Sound, openIfs, seenOf};
 use crate::fault::Fault;
 use crate::fault::cause_of;
+use crate::numbers::enter_phrase;
 use crate::seen::Seen;
 use crate::seen::advance;
 use causes::Cause;
@@ -18,10 +22,13 @@ use lines::Checked;
 use lines::Form;
 use lines::read_line;
 
-// A guide or listing against this book, of which there is an index: 2 before the lines, then line by line, and 7 at the end.
-pub fn check(form: Form, index: &[u32], book: &[u8], text: &[u8]) -> Checked
-    requires { ⌜ Indexed (now index) (now book) ⌝ }
+// A guide or listing against this book, of which there is an index: 2 before the lines, then line by line, and 7 at the end. The numbers of
+// its own phrases stand behind the index afterwards.
+pub fn check(form: Form, index: &mut [u32], book: &[u8], text: &[u8]) -> Checked
+    requires { ⌜ Indexed (now index) (now book) × (161 + length (bookTexts (now book)) ≤ length (now index)) ⌝ }
     ensures { λ r. ⌜ r ≡ checkedAnswer (seenIn form (bookTexts (now (book .entry))) (now (text .entry))) ⌝ }
+    ensures { λ r. ⌜ ((own n : ℕ) → r ≡ Fine own n → Listed (now (index .exit)) (now (book .entry)) (now (text .entry)) own) ⌝ }
+    ensures { λ r. ⌜ OwnKept (now (book .entry)) (now (index .entry)) (now (index .exit)) ⌝ }
 {
     if most_bytes(form) < text.len() {
         return Checked::Refused(Refusal {
@@ -43,9 +50,11 @@ fn most_bytes(form: Form) -> usize
 }
 
 // The lines, of which n end before the place a.
-fn check_lines(form: Form, index: &[u32], book: &[u8], text: &[u8]) -> Checked
-    requires { ⌜ Indexed (now index) (now book) ⌝ }
+fn check_lines(form: Form, index: &mut [u32], book: &[u8], text: &[u8]) -> Checked
+    requires { ⌜ Indexed (now index) (now book) × (161 + length (bookTexts (now book)) ≤ length (now index)) ⌝ }
     ensures { λ r. ⌜ r ≡ checkedAnswer (checkFrom (bookTexts (now (book .entry))) 1 nothingSeen (linesOf form (now (text .entry)))) ⌝ }
+    ensures { λ r. ⌜ ((own n : ℕ) → r ≡ Fine own n → Listed (now (index .exit)) (now (book .entry)) (now (text .entry)) own) ⌝ }
+    ensures { λ r. ⌜ OwnKept (now (book .entry)) (now (index .entry)) (now (index .exit)) ⌝ }
 {
     let mut opens = [0; 32];
     let mut s = Seen {
@@ -71,6 +80,7 @@ fn check_lines(form: Form, index: &[u32], book: &[u8], text: &[u8]) -> Checked
                 place: n + 1,
             });
         }
+        enter_phrase(index, text, head, s.own, a, e);
         s = advance(n + 1, head, s, &mut opens);
         a = e + 1;
         n += 1;

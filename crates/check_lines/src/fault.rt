@@ -2,9 +2,9 @@
 ghost use mathlib.Core.Path.{_≡_};
 ghost use Prim.Native.Nat.{ℕ};
 ghost use mathlib.Core.List.{List, []};
-ghost use lib.ListN.{length};
-ghost use Rattle.phrases.specs.Lookup.{bookTexts, ownTexts, phraseText};
+ghost use Rattle.phrases.specs.Lookup.{bookTexts, phraseText};
 ghost use Rattle.phrases.specs.Index.{Indexed};
+ghost use Rattle.phrases.specs.Own.{OwnNumbers};
 ghost use Rattle.transcript.specs.declared.Test as test;
 ghost use Rattle.lines.specs.Line as line;
 ghost use Rattle.lines.specs.Check as check;
@@ -30,7 +30,7 @@ pub fn cause_of(
     s: Seen,
     opens: &[usize; 32],
 ) -> Fault
-    requires { ⌜ Indexed (now index) (now book) × (length (ownTexts (s .own) (now text)) ≡ s .own) × Sound s (now opens) ⌝ }
+    requires { ⌜ Indexed (now index) (now book) × OwnNumbers (now index) (now book) (now text) (s .own) × Sound s (now opens) ⌝ }
     ensures { λ r. ⌜ r ≡ faultAnswer (check.causeOf (bookTexts (now (book .entry))) (seenWith (now (text .entry)) s (now (opens .entry))) (lineWith (phraseText (now (line .entry))) head)) ⌝ }
 {
     match head {
@@ -45,7 +45,7 @@ pub fn cause_of(
 
 // 6: a phrase behind an instruction, the 33rd, or one that is in the book or among the own phrases.
 fn phrase_fault(index: &[u32], book: &[u8], text: &[u8], phrase: &[u8], s: Seen) -> Fault
-    requires { ⌜ Indexed (now index) (now book) × (length (ownTexts (s .own) (now text)) ≡ s .own) ⌝ }
+    requires { ⌜ Indexed (now index) (now book) × OwnNumbers (now index) (now book) (now text) (s .own) ⌝ }
     ensures { λ r. ⌜ r ≡ faultAnswer (check.phraseCause (bookTexts (now (book .entry))) (seenWith (now (text .entry)) s []) (now (phrase .entry))) ⌝ }
 {
     if s.instructions != 0 {

@@ -1,10 +1,9 @@
 -- A book whose check found no bad line: by the check, or because it is empty.
-use Prim.Native.Nat.{ℕ}
+use Prim.Native.Nat.{ℕ, _≤_}
 use native.Mathlib.Omega.{arith}
 use mathlib.Core.Path.{_≡_, refl, sym, ap, _∙_}
 use mathlib.Core.List.{List, [], _∷_, append-nil}
 use lib.ListN.{length, replicate}
-use lib.Seq.{take-length}
 use Rattle.text.specs.Parts.{split}
 use Rattle.phrases.specs.Book.{bookPhrases, phrasesFrom}
 use Rattle.phrases.specs.Lookup.{ended, bookTexts}
@@ -13,12 +12,14 @@ use Rattle.phrases.specs.declared.Book as book
 use Rattle.phrases.specs.declared.Book.the-variants.{Holds}
 use Rattle.phrases.proofs.Answers.{answer-is, book-is}
 use Rattle.phrases.proofs.Keys.{different-none}
+use Rattle.phrases.proofs.Entries.{index-length}
 use Rattle.phrases.proofs.Entered.{none-zeros}
 
--- what the check says of a book that it finds good
+-- what the check says of a book that it finds good, where it was lent room behind the longest index
 pub checked-book : (b index last : List ℕ) {n : ℕ} {r : book.Book} → (r, last) ≡ bookCheck b index
-    → ((n : ℕ) → r ≡ Holds n → Indexed last b) → r ≡ Holds n → CheckedBook last b
-checked-book b index last {n} e i h = record { indexed = i n h; phrases = book-is b (sym (answer-is b index e) ∙ h) }
+    → ((n : ℕ) → r ≡ Holds n → Indexed last b) → 417 ≤ length last → r ≡ Holds n → CheckedBook last b
+checked-book b index last {n} e i l h =
+    record { indexed = i n h; room = omega (arith, i n h .few); phrases = book-is b (sym (answer-is b index e) ∙ h) }
 
 -- ---- no book
 
@@ -26,19 +27,20 @@ none-index : replicate 129 0 ≡ indexOf []
 unfolding indexOf entriesFrom
 none-index = sym (ap (_∷_ 0) (append-nil _ ∙ none-zeros 0 128))
 
--- the index of no texts is 129 zeros
-pub checked-none : (b : List ℕ) → length b ≡ 0 → CheckedBook (replicate 129 0) b
+-- the index of no texts is 129 zeros, and 32 numbers stand behind it
+pub checked-none : (b : List ℕ) → length b ≡ 0 → CheckedBook (replicate 161 0) b
 unfolding bookTexts ended split behind bookPhrases phrasesFrom
 checked-none [] h =
     record {
       indexed =
           record {
-            entries = rw none-index (take-length (indexOf []));
+            entries = rw (index-length []) none-index;
             different = different-none;
             few = omega arith;
             whole = refl;
             short = omega arith;
           };
+      room = omega arith;
       phrases = refl;
     }
 checked-none (x ∷ b) h = absurd (omega arith)

@@ -40,7 +40,7 @@ unfolding place
 place-absent [] t h = refl
 place-absent (p ∷ ts) t h = rw (h 0 (omega arith), place-absent ts t (λ j l. h (suc j) (omega arith)))
 
-place-first : (ts : List Text) (t : Text) (k : ℕ) → k < length ts → same t (getD ts k []) ≡ true
+pub place-first : (ts : List Text) (t : Text) (k : ℕ) → k < length ts → same t (getD ts k []) ≡ true
     → ((j : ℕ) → j < k → same t (getD ts j []) ≡ false) → place ts t ≡ some k
 unfolding place
 place-first [] t k l e h = absurd (omega arith)

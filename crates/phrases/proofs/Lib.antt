@@ -3,7 +3,7 @@ pub mod Stands
 pub mod Width
 pub mod BookValid
 pub mod BookLines
-pub mod Search
+pub mod FirstLines
 pub mod Checked
 pub mod Texts
 pub mod Answers
@@ -13,3 +13,4 @@ pub mod Entries
 mod Entered
 pub mod CheckedBooks
 mod Weights
+pub mod OwnEntries

@@ -13,7 +13,7 @@ use Rattle.text.specs.Parts.{same}
 use Rattle.text.specs.Text.{Text}
 use Rattle.output.specs.Pour.{pour}
 use Rattle.phrases.specs.Book.{bookPhrases, goodTexts}
-use Rattle.phrases.specs.Lookup.{bookTexts, ownTexts, bookAnswer}
+use Rattle.phrases.specs.Lookup.{bookTexts, bookAnswer}
 use Rattle.phrases.specs.declared.Book as answer
 
 -- the sum of bytes, each times its place; the first is at the place i
@@ -83,11 +83,8 @@ pub record Indexed (index book : List ℕ) : Type 0 where
   pub whole : behind 0 (bookTexts book) ≡ length book
   pub short : length book < 32768
 
--- a book whose check found no bad line, with its index
+-- a book whose check found no bad line, with its index, and room for 32 numbers behind it
 pub record CheckedBook (index book : List ℕ) : Type 0 where
   pub indexed : Indexed index book
+  pub room : 161 + length (bookTexts book) ≤ length index
   pub phrases : bookPhrases book ≡ made (bookTexts book)
-
--- what a writer of texts is lent: the book with its index, and so many own phrases, which are there
-abbrev pub Listed : List ℕ → List ℕ → List ℕ → ℕ → Type 0
-Listed index book own count = Indexed index book × (length (ownTexts count own) ≡ count) × (count ≤ 65536)

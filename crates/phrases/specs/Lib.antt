@@ -2,3 +2,4 @@ pub mod Phrases
 pub mod Book
 pub mod Lookup
 pub mod Index
+pub mod Own

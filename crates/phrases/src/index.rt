@@ -75,11 +75,3 @@ pub fn find_keyed(index: &[u32], book: &[u8], weight: usize, text: &[u8]) -> Pla
     }
     Place::Missing
 }
-
-// The place of a text among the lines of a book that end in LF.
-pub fn find_line(index: &[u32], book: &[u8], text: &[u8]) -> Place
-    requires { ⌜ Indexed (now index) (now book) ⌝ }
-    ensures { λ r. ⌜ r ≡ placeAnswer (phrases.place (bookTexts (now (book .entry))) (now (text .entry))) ⌝ }
-{
-    find_keyed(index, book, key_of(text), text)
-}

@@ -33,7 +33,7 @@ use Rattle.fields.proofs.Ahead.{known-part}
 -- ---- the number of the book's phrases
 
 pub book-count : {plate index book own : List ℕ} {count : ℕ} → Lent plate index book own count → getD index 0 0 ≡ length (bookTexts book)
-book-count {plate} {index} {book} l = sym (indexed-count index book (l .indexed))
+book-count {plate} {index} {book} l = sym (indexed-count index book (l .listed .indexed))
 
 -- ---- the place
 
@@ -79,7 +79,7 @@ module _ {plate index book own : List ℕ} {count : ℕ} (l : Lent plate index b
 
   -- the source is one of the book's texts and of the own ones
   pub source-alike : (texts : ℕ) → texts ≡ getD index 0 0 → source texts count here ≡ sources here
-  source-alike texts t = λ i. source ((t ∙ book-count l) i) (sym (l .whole) i) here
+  source-alike texts t = λ i. source ((t ∙ book-count l) i) (sym (l .listed .numbers .whole) i) here
 
   pub source-of : (texts : ℕ) (r : Source) → texts ≡ getD index 0 0 → sourceRead plate at r ≡ source texts count here → sourceRead plate at r ≡ sources here
   source-of texts r t e = e ∙ source-alike texts t
@@ -97,13 +97,13 @@ module _ {plate index book own : List ℕ} {count : ℕ} (l : Lent plate index b
 
   module _ (isOwn : Bool) (n k : ℕ) (e : got (isOwn, n) (placeAt plate (at + k)) ≡ sources here) where
     pub source-good : 0 < getD index 0 0 + count → Sourced (bookTexts book) (ownTexts count own) isOwn n
-    source-good h = sourced _ _ _ (omega (arith, h, book-count l, l .whole)) (l .indexed .few) (omega (arith, l .few, l .whole)) e
+    source-good h = sourced _ _ _ (omega (arith, h, book-count l, l .listed .numbers .whole)) (l .listed .indexed .few) (omega (arith, l .listed .few, l .listed .numbers .whole)) e
 
     module _ (s : Sourced (bookTexts book) (ownTexts count own) isOwn n) where
       -- the phrase at a place that the code read and judged
       pub phrase-read : (f : Field) → fieldRead plate f ≡ judged (number (width n)) (λ i. ltb i n) Unused (placeAt plate (at + k))
           → phraseRead plate book own isOwn f ≡ phrase (bookTexts book) (ownTexts count own) here
-      phrase-read f j = place-there plate book own (at + k) count n f j (l .whole) isOwn (s .all)
+      phrase-read f j = place-there plate book own (at + k) count n f j (l .listed .numbers .whole) isOwn (s .all)
           ∙ then-got _ (λ s. phraseAt (cond (s .0) (ownTexts count own) (bookTexts book))) here e
           ∙ by-source (bookTexts book) (ownTexts count own) here
 
@@ -124,6 +124,14 @@ module _ {plate index book own : List ℕ} {count : ℕ} (l : Lent plate index b
           go true z all = absurd (true≢false z)
           go false z all = omega (arith, ltb-true i n h)
 
+      -- and where that is the own ones
+      own-below : (i : ℕ) → ltb i n ≡ true → isOwn ≡ true → i < count
+      own-below i h z = go isOwn z (s .all)
+        where
+          go : (b : Bool) → b ≡ true → n ≡ length (cond b (ownTexts count own) (bookTexts book)) → i < count
+          go true z all = omega (arith, ltb-true i n h, l .listed .numbers .whole)
+          go false z all = absurd (true≢false (sym z))
+
       -- the phrase at a place that is the part of what was read ahead
       module _ (ahead : ℕ) (a : ahead ≡ aheadIn plate at) (near : k ≤ 3)
           (w : Known (phrase (bookTexts book) (ownTexts count own) here)) {own′ : Bool} {i next : ℕ}
@@ -142,17 +150,21 @@ module _ {plate index book own : List ℕ} {count : ℕ} (l : Lent plate index b
         phrase-below z =
             place-below i (got-good _ (gives-judged (λ i. ltb i n) Unused (gives-number (width n))) place-part .1) (sym (r .0) ∙ z)
 
+        phrase-own-below : own′ ≡ true → i < count
+        phrase-own-below z =
+            own-below i (got-good _ (gives-judged (λ i. ltb i n) Unused (gives-number (width n))) place-part .1) (sym (r .0) ∙ z)
+
   -- a phrase that is known to be good, by its source
   pub phrase-accepted : (isOwn : Bool) (k n : ℕ) {texts : ℕ} → texts ≡ getD index 0 0
       → got (isOwn, n) (placeAt plate (at + k)) ≡ source texts count here → 0 < getD index 0 0 + count
       → {ahead : ℕ} → ahead ≡ aheadIn plate at → k ≤ 3 → Known (phrase (bookTexts book) (ownTexts count own) here)
       → {own′ : Bool} {i next : ℕ} → (own′ ≡ isOwn) × (i ≡ partAhead k (width n) ahead) × (next ≡ at + k + width n)
       → (got (phraseIn book own own′ i) (placeAt plate next) ≡ phrase (bookTexts book) (ownTexts count own) here)
-      × (own′ ≡ false → i < length (bookTexts book))
+      × ((own′ ≡ false → i < length (bookTexts book)) × (own′ ≡ true → i < count))
   phrase-accepted isOwn k n {texts} t e some {ahead} a near w r =
       let e′ = e ∙ source-alike texts t in
       let s = source-good isOwn n k e′ some in
-      (phrase-ahead isOwn n k e′ s ahead a near w r, phrase-below isOwn n k e′ s ahead a near w r)
+      (phrase-ahead isOwn n k e′ s ahead a near w r, (phrase-below isOwn n k e′ s ahead a near w r, phrase-own-below isOwn n k e′ s ahead a near w r))
 
 -- only the end of a phrase
 pub phrase-ended : (plate book own : List ℕ) (f : Field) (isOwn : Bool)

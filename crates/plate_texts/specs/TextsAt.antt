@@ -1,19 +1,15 @@
 -- What the readers of the texts of a plate ask, and the codes of texts.
 use Prim.Native.Nat.{ℕ, zero, suc, _≤_}
-use mathlib.Core.Path.{_≡_}
 use mathlib.Core.List.{List}
 use mathlib.Core.Bool.{Bool, true, false}
 use lib.ListN.{length}
 use lib.Dec.{leb}
-use Rattle.phrases.specs.Lookup.{ownTexts}
-use Rattle.phrases.specs.Index.{Indexed}
+use Rattle.phrases.specs.Own.{Listed}
 
--- what the readers of texts ask: a plate of at most 2,953 bytes, the index of the book, at most 32 own phrases, all there
+-- what the readers of texts ask: a plate of at most 2,953 bytes, the index of the book, at most 32 own phrases with their numbers
 pub record Lent (plate index book own : List ℕ) (count : ℕ) : Type 0 where
   pub short : length plate ≤ 2953
-  pub indexed : Indexed index book
-  pub few : count ≤ 32
-  pub whole : length (ownTexts count own) ≡ count
+  pub listed : Listed index book own count
 
 -- the code of a text, with n phrases
 abbrev pub codeWith : ℕ → ℕ → Bool

@@ -1,7 +1,7 @@
 // A phrase by its place: in the book, or among the own phrases. It is judged where it is read first; where it was read before, no more.
 // The 25 bits from the code of its text on are read ahead: a phrase lies in them, behind the two bits of the code.
 ghost use mathlib.Core.Path.{_≡_};
-ghost use mathlib.Core.Bool.{false};
+ghost use mathlib.Core.Bool.{true, false};
 ghost use Prim.Native.Nat.{_+_, _*_, _≤_, _<_};
 ghost use lib.ListN.{length, getD};
 ghost use lib.Dec.{ltb};
@@ -137,6 +137,7 @@ pub fn accepted_phrase(
     requires { ⌜ Lent (now plate) (now index) (now book) (now own) count × (0 < getD (now index) 0 0 + count) × (ahead ≡ aheadIn (now plate) at) × (at + 2 ≤ length (now plate) * 8) × Known (phrase (bookTexts (now book)) (ownTexts count (now own)) (placeAt (now plate) (at + 2))) ⌝ }
     ensures { λ r. ⌜ got (phraseIn (now (book .entry)) (now (own .entry)) (r .own) (r .place)) (placeAt (now (plate .entry)) (r .next)) ≡ phrase (bookTexts (now (book .entry))) (ownTexts count (now (own .entry))) (placeAt (now (plate .entry)) (at + 2)) ⌝ }
     ensures { λ r. ⌜ (r .own ≡ false → r .place < length (bookTexts (now (book .entry)))) ⌝ }
+    ensures { λ r. ⌜ (r .own ≡ true → r .place < count) ⌝ }
 {
     let texts = phrases::count_of(index);
     if texts == 0 {

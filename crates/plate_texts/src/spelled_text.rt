@@ -6,6 +6,7 @@ ghost use Rattle.text.specs.Text.{Text, textSize};
 ghost use Rattle.phrases.specs.Phrases.{isNew};
 ghost use Rattle.phrases.specs.Lookup.{bookTexts, ownTexts};
 ghost use Rattle.phrases.specs.Index.{Indexed};
+ghost use Rattle.phrases.specs.Own.{OwnNumbers};
 ghost use Rattle.plate.specs.Plate.{spelled};
 ghost use Rattle.fields.specs.Places.{placeAt, sizeRead, untilETX, valuesOf, Known};
 use causes::Cause;
@@ -17,7 +18,7 @@ use plate_characters::last_size;
 
 // Whether a text is no phrase.
 fn is_new(index: &[u32], book: &[u8], own: &[u8], count: usize, text: &[u8]) -> bool
-    requires { ⌜ Indexed (now index) (now book) ⌝ }
+    requires { ⌜ Indexed (now index) (now book) × OwnNumbers (now index) (now book) (now own) count ⌝ }
     ensures { λ r. ⌜ r ≡ isNew (bookTexts (now (book .entry))) (ownTexts count (now (own .entry))) (now (text .entry)) ⌝ }
 {
     match phrases::find_phrase(index, book, own, count, text) {
@@ -47,7 +48,7 @@ pub fn is_unknown(
     own: &[u8],
     count: usize,
 ) -> bool
-    requires { ⌜ (length (now plate) ≤ 2953) × Indexed (now index) (now book) × Known (untilETX (placeAt (now plate) bit)) × (size ≡ length (valuesOf (untilETX (placeAt (now plate) bit)))) × (size ≤ 64) ⌝ }
+    requires { ⌜ (length (now plate) ≤ 2953) × Indexed (now index) (now book) × OwnNumbers (now index) (now book) (now own) count × Known (untilETX (placeAt (now plate) bit)) × (size ≡ length (valuesOf (untilETX (placeAt (now plate) bit)))) × (size ≤ 64) ⌝ }
     ensures { λ r. ⌜ r ≡ isNew (bookTexts (now (book .entry))) (ownTexts count (now (own .entry))) (valuesOf (untilETX (placeAt (now (plate .entry)) bit))) ⌝ }
 {
     let mut characters = [0u8; 64];
@@ -64,7 +65,7 @@ pub fn read_spelled(
     own: &[u8],
     count: usize,
 ) -> Field
-    requires { ⌜ (length (now plate) ≤ 2953) × Indexed (now index) (now book) ⌝ }
+    requires { ⌜ (length (now plate) ≤ 2953) × Indexed (now index) (now book) × OwnNumbers (now index) (now book) (now own) count ⌝ }
     ensures { λ r. ⌜ sizeRead (now (plate .entry)) at r ≡ spelled (bookTexts (now (book .entry))) (ownTexts count (now (own .entry))) (placeAt (now (plate .entry)) at) ⌝ }
 {
     let field = last_size(plate, at);

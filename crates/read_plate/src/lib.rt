@@ -24,7 +24,7 @@ ghost use Rattle.listing.specs.Calls.{readPlateCall};
 // The listing with a book that is checked and room for the plate's own phrases, if it has some.
 fn read_own<'a>(
     plate: &[u8],
-    index: &'a [u32],
+    index: &'a mut [u32],
     book: &'a [u8],
     own: &'a mut [u8],
     listing: &mut [u8],
@@ -40,7 +40,7 @@ fn read_own<'a>(
 }
 
 // The listing with a book that is checked. Only a plate with own phrases is given room for them.
-fn read_with<'a>(plate: &[u8], index: &'a [u32], book: &'a [u8], listing: &mut [u8]) -> Written
+fn read_with<'a>(plate: &[u8], index: &'a mut [u32], book: &'a [u8], listing: &mut [u8]) -> Written
     requires { ⌜ CheckedBook (now index) (now book) ⌝ }
     ensures { λ r. ⌜ (writtenAnswer r, now (listing .exit)) ≡ readPlateCall (now (plate .entry)) (now (book .entry)) (now (listing .entry)) ⌝ }
 {
@@ -56,15 +56,15 @@ pub fn read_plate(plate: &[u8], book: &[u8], listing: &mut [u8]) -> Written
     ensures { λ r. ⌜ (writtenAnswer r, now (listing .exit)) ≡ readPlateCall (now (plate .entry)) (now (book .entry)) (now (listing .entry)) ⌝ }
 {
     if book.len() == 0 {
-        let index = [0u32; 129];
-        return read_with(plate, &index, book, listing);
+        let mut index = [0u32; 161];
+        return read_with(plate, &mut index, book, listing);
     }
-    let mut index = [0u32; 385];
+    let mut index = [0u32; 417];
     match phrases::check_book(book, &mut index) {
         Book::Bad(line) => Written::Refused(Refusal {
             cause: Cause::Book,
             place: line,
         }),
-        Book::Holds(_) => read_with(plate, &index, book, listing),
+        Book::Holds(_) => read_with(plate, &mut index, book, listing),
     }
 }

@@ -3,6 +3,8 @@ pub mod OwnFirst
 pub mod OwnNumber
 pub mod OwnLines
 pub mod OwnSoFar
+pub mod OwnPlaces
+pub mod OwnEntered
 pub mod OwnAnswers
 pub mod FillingBits
 pub mod WholePlate

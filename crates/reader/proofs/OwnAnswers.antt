@@ -26,8 +26,8 @@ module _ (plate own : List ℕ) (f : Field) {m : Read (List Text)} (e : ownRead 
   own-texts-stopped h k = refused (ownRead plate own) refusalOf e h k refl
 
 -- a refusal says nothing of the lines
-pub none-there : (own : List ℕ) (f : Field) {r : Refusal} → f ≡ fields.Refused r → OwnThere own f
-none-there own f h = subst (OwnThere own) (sym h) tt
+pub none-there : (index book own : List ℕ) (f : Field) {r : Refusal} → f ≡ fields.Refused r → OwnThere index book own f
+none-there index book own f h = subst (OwnThere index book own) (sym h) tt
 
 -- ---- whole plates
 

@@ -1,5 +1,5 @@
 -- Lines `phrase,TEXT`, one behind the other: they hold the texts whatever stands behind them.
-use Prim.Native.Nat.{ℕ, _*_, _≤_}
+use Prim.Native.Nat.{ℕ, _+_, _*_, _≤_}
 use mathlib.Core.Path.{_≡_, refl, sym, ap, _∙_}
 use mathlib.Core.List.{List, [], _∷_, _++_, append-assoc, append-nil}
 use mathlib.Core.Bool.{true}
@@ -31,7 +31,7 @@ module _ (t : Text) (ok : TextOk t) where
       let plain = all-so textByte (other comma) text-no-comma t (text-bytes t ok) in
       rw (split-part comma (bytes "phrase") t refl, split-last comma t plain)
 
-  line-length : length (phraseLine t) ≤ 72
+  pub line-length : length (phraseLine t) ≤ 72
   unfolding phraseLine
   line-length = simp length-append (omega (arith, text-size t ok .1))
 
@@ -41,6 +41,11 @@ pub lines-more : (ts : List Text) (t : Text) → ownLines ts ++ phraseLine t ≡
 unfolding ownLines
 lines-more [] t = sym (append-nil (phraseLine t))
 lines-more (u ∷ ts) t = append-assoc (phraseLine u) (ownLines ts) (phraseLine t) ∙ ap (λ l. phraseLine u ++ l) (lines-more ts t)
+
+-- one line more is 8 bytes more than its text
+pub line-size : (ts : List Text) (t : Text) → length (ownLines (ts ++ (t ∷ []))) ≡ length (ownLines ts) + (8 + length t)
+unfolding phraseLine
+line-size ts t = sym (ap length (lines-more ts t)) ∙ simp length-append (omega arith)
 
 pub lines-texts : (ts : List Text) (rest : List ℕ) → TextsOk ts → ownTexts (length ts) (ownLines ts ++ rest) ≡ ts
 unfolding ownLines ownTexts

@@ -54,14 +54,23 @@ own-start plate book at count own =
       until = ap (λ n. ownUntil (bookTexts book) [] n (placeAt plate at)) (sub-zero count);
     }
 
+pub own-start-texts : (plate book : List ℕ) (at count : ℕ) (own : List ℕ) → own-start plate book at count own .texts ≡ []
+unfolding own-start
+own-start-texts plate book at count own = refl
+
 module _ {plate book : List ℕ} {at count : ℕ} {old own : List ℕ} {bit end k : ℕ} (s : OwnSoFar plate book at count old own bit end k)
     (room : 72 * k ≤ length old) where
+  -- the lines are the front of the buffer
+  pub own-front : own ≡ ownLines (s .texts) ++ drop (length (ownLines (s .texts))) old
+  own-front =
+      let lines = ownLines (s .texts) in
+      let fits : length lines ≤ length old = omega (arith, lines-length (s .texts) (s .good), s .number) in
+      stored 0 lines old end own (s .written) ∙ pour-fits lines old fits
+
   pub own-texts : ownTexts k own ≡ s .texts
   own-texts =
       let lines = ownLines (s .texts) in
-      let fits : length lines ≤ length old = omega (arith, lines-length (s .texts) (s .good), s .number) in
-      let front : own ≡ lines ++ drop (length lines) old = stored 0 lines old end own (s .written) ∙ pour-fits lines old fits in
-      ap (ownTexts k) front ∙ ap (λ n. ownTexts n (lines ++ drop (length lines) old)) (sym (s .number))
+      ap (ownTexts k) own-front ∙ ap (λ n. ownTexts n (lines ++ drop (length lines) old)) (sym (s .number))
       ∙ lines-texts (s .texts) (drop (length lines) old) (s .good)
 
   pub own-there : length (ownTexts k own) ≡ k
@@ -128,6 +137,13 @@ module _ {plate book : List ℕ} {at count : ℕ} {old own : List ℕ} {bit end 
               append-assoc (s .texts) (t ∷ []) (ownUntil (bookTexts book) (s .texts ++ (t ∷ [])) n (placeAt plate next))
               ∙ ap (λ m. s .texts ++ whenRead m (λ t q. t ∷ ownUntil (bookTexts book) (s .texts ++ (t ∷ [])) n q)) e′ ∙ (rw one-left at (s .until));
         }
+
+    -- the text is behind the earlier ones
+    pub own-more-texts : (t : Text) (next : ℕ) (own′ : List ℕ) (end′ : ℕ) (counted : length old < 9223372036854775808)
+        (e : got t (placeAt plate next) ≡ spelled (bookTexts book) (ownTexts k own) (placeAt plate bit))
+        (w : (end′, own′) ≡ poured end (phraseLine t) own) → own-more t next own′ end′ counted e w .texts ≡ s .texts ++ (t ∷ [])
+    unfolding own-more
+    own-more-texts t next own′ end′ counted e w = refl
 
 -- ---- of a plate
 

@@ -10,6 +10,7 @@ use Rattle.text.specs.Quoted.{bytes}
 use Rattle.text.specs.Parts.{LF}
 use Rattle.text.specs.Text.{Text}
 use Rattle.phrases.specs.Lookup.{ownTexts}
+use Rattle.phrases.specs.Own.{Listed}
 use Rattle.plate.specs.Reading.{Place, Read, got, stopped, Reader, _>>=_}
 use Rattle.plate.specs.Plate.{spelled, ownCount, ownFrom}
 use Rattle.fields.specs.declared.Field as field
@@ -39,10 +40,10 @@ abbrev pub ownRead : List ℕ → List ℕ → field.Field → Read (List Text)
 ownRead plate own (fields.Is n next) = got (ownTexts n own) (placeAt plate next)
 ownRead plate own (fields.Refused r) = stopped (r .cause) (r .place)
 
--- at most 32, each with its line
-abbrev pub OwnThere : List ℕ → field.Field → Type 0
-OwnThere own (fields.Is n next) = (n ≤ 32) × (length (ownTexts n own) ≡ n)
-OwnThere own (fields.Refused r) = Unit
+-- at most 32, each with its line, and with its number behind the index of the book
+abbrev pub OwnThere : List ℕ → List ℕ → List ℕ → field.Field → Type 0
+OwnThere index book own (fields.Is n next) = Listed index book own n
+OwnThere index book own (fields.Refused r) = Unit
 
 -- the lines of own phrases, one behind the other
 unfoldable pub ownLines : List Text → List ℕ

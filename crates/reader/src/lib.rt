@@ -1,7 +1,8 @@
 // The whole plate, read before anything is made of it: its own phrases, its instruction count, its instructions and the filling, with
 // causes 10, 12, 13, 14, 8 and 15 at the exact bit.
 // specs/Holding.antt says which program a plate's contents are. The own phrases are written once, as lines `phrase,TEXT`, into a buffer
-// that the caller lends; instructions stay where they are, and are read again one by one.
+// that the caller lends, and each gets its number behind the index of the book; instructions stay where they are, and are read again one by
+// one.
 mod filling;
 mod own;
 mod passing;

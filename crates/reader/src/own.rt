@@ -2,11 +2,12 @@
 // `phrase,TEXT`.
 ghost use mathlib.Core.Path.{_≡_};
 ghost use mathlib.Core.List.{[]};
-ghost use Prim.Native.Nat.{_*_, _≤_};
+ghost use Prim.Native.Nat.{_+_, _*_, _≤_};
 ghost use lib.ListN.{length};
 ghost use Rattle.output.specs.Pour.{pour, poured};
 ghost use Rattle.phrases.specs.Lookup.{bookTexts};
 ghost use Rattle.phrases.specs.Index.{Indexed};
+ghost use Rattle.phrases.specs.Own.{OwnKept};
 ghost use Rattle.plate.specs.Plate.{ownCount, ownFrom};
 ghost use Rattle.fields.specs.Places.{placeAt, fieldRead, untilETX, valuesOf, Known};
 ghost use Rattle.reader.specs.Own.{hasOwn, OwnRoom, phraseLine, ownPhrases, ownRead, OwnThere, ownLines, ownUntil, ownCounted};
@@ -54,19 +55,20 @@ fn put_phrase(plate: &[u8], bit: usize, own: &mut [u8], at: usize) -> usize
     text_out::put_byte(own, copied.end, b'\n')
 }
 
-// So many own phrases from a bit on. `own` has room for a line of 72 bytes for each.
+// So many own phrases from a bit on, each with its number behind the index of the book. `own` has room for a line of 72 bytes for each.
 fn read_phrases(
     plate: &[u8],
     at: usize,
     count: usize,
-    index: &[u32],
+    index: &mut [u32],
     book: &[u8],
     own: &mut [u8],
 ) -> Field
-    requires { ⌜ (length (now plate) ≤ 2953) × Indexed (now index) (now book) × (count ≤ 32) × (72 * count ≤ length (now own)) ⌝ }
+    requires { ⌜ (length (now plate) ≤ 2953) × Indexed (now index) (now book) × (161 + length (bookTexts (now book)) ≤ length (now index)) × (count ≤ 32) × (72 * count ≤ length (now own)) ⌝ }
     ensures { λ r. ⌜ ownRead (now (plate .entry)) (now (own .exit)) r ≡ ownFrom (bookTexts (now (book .entry))) [] count (placeAt (now (plate .entry)) at) ⌝ }
-    ensures { λ r. ⌜ OwnThere (now (own .exit)) r ⌝ }
+    ensures { λ r. ⌜ OwnThere (now (index .exit)) (now (book .entry)) (now (own .exit)) r ⌝ }
     ensures { λ r. ⌜ now (own .exit) ≡ pour 0 (ownLines (ownUntil (bookTexts (now (book .entry))) [] count (placeAt (now (plate .entry)) at))) (now (own .entry)) ⌝ }
+    ensures { λ r. ⌜ OwnKept (now (book .entry)) (now (index .entry)) (now (index .exit)) ⌝ }
 {
     let mut bit = at;
     let mut end = 0;
@@ -76,7 +78,9 @@ fn read_phrases(
         let Field::Is(_, next) = field else {
             return field;
         };
+        let start = end + 7;
         end = put_phrase(plate, bit, own, end);
+        phrases::enter_own(index, k, start, &own[start..end - 1]);
         bit = next;
         k += 1;
     }
@@ -84,11 +88,12 @@ fn read_phrases(
 }
 
 // The own phrases of a plate, as lines at the front of `own`: those that are read before the first refusal. Nothing else changes there.
-pub fn read_own(plate: &[u8], index: &[u32], book: &[u8], own: &mut [u8]) -> Field
-    requires { ⌜ (length (now plate) ≤ 2953) × Indexed (now index) (now book) × OwnRoom (now plate) (now own) ⌝ }
+pub fn read_own(plate: &[u8], index: &mut [u32], book: &[u8], own: &mut [u8]) -> Field
+    requires { ⌜ (length (now plate) ≤ 2953) × Indexed (now index) (now book) × (161 + length (bookTexts (now book)) ≤ length (now index)) × OwnRoom (now plate) (now own) ⌝ }
     ensures { λ r. ⌜ ownRead (now (plate .entry)) (now (own .exit)) r ≡ ownPhrases (bookTexts (now (book .entry))) (placeAt (now (plate .entry)) 0) ⌝ }
-    ensures { λ r. ⌜ OwnThere (now (own .exit)) r ⌝ }
+    ensures { λ r. ⌜ OwnThere (now (index .exit)) (now (book .entry)) (now (own .exit)) r ⌝ }
     ensures { λ r. ⌜ now (own .exit) ≡ pour 0 (ownLines (ownCounted (bookTexts (now (book .entry))) (ownCount (placeAt (now (plate .entry)) 0)))) (now (own .entry)) ⌝ }
+    ensures { λ r. ⌜ OwnKept (now (book .entry)) (now (index .entry)) (now (index .exit)) ⌝ }
 {
     let field = read_count(plate, 0);
     let Field::Is(count, next) = field else {

@@ -1,8 +1,11 @@
 // A whole plate: the own phrases, the instruction count, the instructions and the filling.
 ghost use mathlib.Core.Path.{_≡_};
+ghost use Prim.Native.Nat.{_+_, _≤_};
+ghost use lib.ListN.{length};
 ghost use Rattle.output.specs.Pour.{pour};
 ghost use Rattle.phrases.specs.Lookup.{bookTexts, phrasesIn};
 ghost use Rattle.phrases.specs.Index.{Indexed};
+ghost use Rattle.phrases.specs.Own.{OwnKept};
 ghost use Rattle.plate.specs.Plate.{resultOf, plateProgram};
 ghost use Rattle.fields.specs.Places.{placeAt};
 ghost use Rattle.plate_texts.specs.TextsAt.{Lent};
@@ -56,12 +59,14 @@ fn read_rest(
 }
 
 // What a plate holds. Its own phrases, or those that are read before the reading stops, are the first lines of `own` afterwards; nothing
-// else changes there. `own` has room for 32 lines of 72 bytes, if the plate has own phrases.
-pub fn read_contents(plate: &[u8], index: &[u32], book: &[u8], own: &mut [u8]) -> PlateRead
-    requires { ⌜ Indexed (now index) (now book) × OwnRoom (now plate) (now own) ⌝ }
+// else changes there. `own` has room for 32 lines of 72 bytes, if the plate has own phrases. Their numbers stand behind the index of the
+// book afterwards.
+pub fn read_contents(plate: &[u8], index: &mut [u32], book: &[u8], own: &mut [u8]) -> PlateRead
+    requires { ⌜ Indexed (now index) (now book) × (161 + length (bookTexts (now book)) ≤ length (now index)) × OwnRoom (now plate) (now own) ⌝ }
     ensures { λ r. ⌜ programRead (now (plate .entry)) (now (book .entry)) (now (own .exit)) r ≡ plateProgram (bookTexts (now (book .entry))) (now (plate .entry)) ⌝ }
-    ensures { λ r. ⌜ ((c : contents.Contents) → r ≡ plates.Holds c → Stands (now (plate .entry)) (now (index .entry)) (now (book .entry)) (now (own .exit)) c) ⌝ }
+    ensures { λ r. ⌜ ((c : contents.Contents) → r ≡ plates.Holds c → Stands (now (plate .entry)) (now (index .exit)) (now (book .entry)) (now (own .exit)) c) ⌝ }
     ensures { λ r. ⌜ now (own .exit) ≡ pour 0 (ownLines (ownStored (bookTexts (now (book .entry))) (now (plate .entry)))) (now (own .entry)) ⌝ }
+    ensures { λ r. ⌜ OwnKept (now (book .entry)) (now (index .entry)) (now (index .exit)) ⌝ }
 {
     if 2953 < plate.len() {
         return PlateRead::Refused(Refusal {

@@ -25,7 +25,7 @@ ghost use Rattle.running.specs.Call.{runCall};
 // The run with a book that is checked and room for the plate's own phrases, if it has some.
 fn run_own<'a>(
     plate: &[u8],
-    index: &'a [u32],
+    index: &'a mut [u32],
     book: &'a [u8],
     own: &'a mut [u8],
     answers: &[i32],
@@ -54,7 +54,7 @@ fn run_own<'a>(
 // The run with a book that is checked. Only a plate with own phrases is given room for them.
 fn run_with<'a>(
     plate: &[u8],
-    index: &'a [u32],
+    index: &'a mut [u32],
     book: &'a [u8],
     answers: &[i32],
     scratch: &mut [u16],
@@ -83,15 +83,15 @@ pub fn run(
     ensures { λ r. ⌜ now (scratch .exit) ≡ now (scratch .entry) ⌝ }
 {
     if book.len() == 0 {
-        let index = [0u32; 129];
-        return run_with(plate, &index, book, answers, scratch, transcript);
+        let mut index = [0u32; 161];
+        return run_with(plate, &mut index, book, answers, scratch, transcript);
     }
-    let mut index = [0u32; 385];
+    let mut index = [0u32; 417];
     match phrases::check_book(book, &mut index) {
         Book::Bad(line) => Ran::Refused(Refusal {
             cause: Cause::Book,
             place: line,
         }),
-        Book::Holds(_) => run_with(plate, &index, book, answers, scratch, transcript),
+        Book::Holds(_) => run_with(plate, &mut index, book, answers, scratch, transcript),
     }
 }

@@ -7,7 +7,7 @@ ghost use Rattle.output.specs.Pour.{poured};
 ghost use Rattle.bits.specs.Bits.{bitsOf, bytesBits};
 ghost use Rattle.text.specs.Parts.{split, comma};
 ghost use Rattle.phrases.specs.Lookup.{bookTexts, ownTexts, phrasesIn};
-ghost use Rattle.phrases.specs.Index.{Listed};
+ghost use Rattle.phrases.specs.Own.{Listed};
 ghost use Rattle.plate.specs.Writing.{spelledBits, ownBit, textBits, textsBits};
 use phrases::Found;
 

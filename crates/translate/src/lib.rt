@@ -20,7 +20,7 @@ ghost use Rattle.phrases.specs.Index.{CheckedBook};
 ghost use Rattle.translate.specs.Call.{translateCall};
 
 // The plate with a book that is checked.
-fn translate_with(guide: &[u8], index: &[u32], book: &[u8], plate: &mut [u8]) -> Written
+fn translate_with(guide: &[u8], index: &mut [u32], book: &[u8], plate: &mut [u8]) -> Written
     requires { ⌜ CheckedBook (now index) (now book) ⌝ }
     ensures { λ r. ⌜ (writtenAnswer r, now (plate .exit)) ≡ translateCall (now (guide .entry)) (now (book .entry)) (now (plate .entry)) ⌝ }
 {
@@ -37,15 +37,15 @@ pub fn translate(guide: &[u8], book: &[u8], plate: &mut [u8]) -> Written
     ensures { λ r. ⌜ (writtenAnswer r, now (plate .exit)) ≡ translateCall (now (guide .entry)) (now (book .entry)) (now (plate .entry)) ⌝ }
 {
     if book.len() == 0 {
-        let index = [0u32; 129];
-        return translate_with(guide, &index, book, plate);
+        let mut index = [0u32; 161];
+        return translate_with(guide, &mut index, book, plate);
     }
-    let mut index = [0u32; 385];
+    let mut index = [0u32; 417];
     match phrases::check_book(book, &mut index) {
         Book::Bad(line) => Written::Refused(Refusal {
             cause: Cause::Book,
             place: line,
         }),
-        Book::Holds(_) => translate_with(guide, &index, book, plate),
+        Book::Holds(_) => translate_with(guide, &mut index, book, plate),
     }
 }

@@ -1,7 +1,14 @@
 // Tries the crate phrases on the cases of its standard input: the check of a book, a text's place among the phrases, the text of a
 // phrase, and the width of a place. Writes a line for each case; model/README.md has the format. A lookup in a
-// bad book is answered with the book's first bad line.
+// bad book is answered with the book's first bad line. The numbers of the own phrases are entered before a lookup.
 ghost use Rattle.phrases.specs.Index.{Indexed};
+ghost use Rattle.phrases.specs.Own.{OwnNumbers};
+ghost use Prim.Native.Nat.{_≤_};
+ghost use lib.ListN.{length};
+
+mod own;
+
+use crate::own::enter_lines;
 use libc::STDIN_FILENO;
 use libc::STDOUT_FILENO;
 use phrases::Book;
@@ -13,7 +20,7 @@ use printed::put_pairs;
 
 // The check of a book. This and the functions below fill the line, and answer where it ends, without LF.
 fn check(line: &mut [u8], s: &[u8], at: usize) -> usize {
-    let mut index = [0u32; 385];
+    let mut index = [0u32; 449];
     match phrases::check_book(vectors::slice(s, at), &mut index) {
         Book::Holds(count) => put_labelled(line, 0, b"Y,", count),
         Book::Bad(bad) => put_labelled(line, 0, b"N,", bad),
@@ -28,39 +35,61 @@ fn place(line: &mut [u8], list: usize, place: usize) -> usize {
 
 // Where a text is a phrase.
 fn find(line: &mut [u8], s: &[u8], at: usize) -> usize {
-    let mut index = [0u32; 385];
+    let mut index = [0u32; 449];
     let second = vectors::past_slice(s, at);
     let third = vectors::past_slice(s, second);
+    let count = vectors::long_number(s, third);
+    let text = vectors::slice(s, vectors::past(third, 8));
     let book = vectors::slice(s, at);
     match phrases::check_book(book, &mut index) {
         Book::Bad(bad) => put_labelled(line, 0, b"N,", bad),
-        Book::Holds(_) => match phrases::find_phrase(
-            &index,
+        Book::Holds(_) => found(
+            line,
+            &mut index,
             book,
             vectors::slice(s, second),
-            vectors::long_number(s, third),
-            vectors::slice(s, vectors::past(third, 8)),
-        ) {
-            Found::InBook(i) => place(line, 0, i),
-            Found::InOwn(i) => place(line, 1, i),
-            Found::Nowhere => text_out::put_byte(line, 0, b'N'),
-        },
+            count,
+            text,
+        ),
     }
 }
 
-// The text of a phrase by its place, where the book or the own phrases have one there.
+// Where a text is a phrase, with a book that is checked.
+fn found(
+    line: &mut [u8],
+    index: &mut [u32],
+    book: &[u8],
+    own: &[u8],
+    count: usize,
+    text: &[u8],
+) -> usize
+    requires { ⌜ Indexed (now index) (now book) × (449 ≤ length (now index)) ⌝ }
+{
+    let n = enter_lines(index, book, own, count);
+    match phrases::find_phrase(index, book, own, n, text) {
+        Found::InBook(i) => place(line, 0, i),
+        Found::InOwn(i) => place(line, 1, i),
+        Found::Nowhere => text_out::put_byte(line, 0, b'N'),
+    }
+}
+
+// The text of a phrase by its place, where the book or the n own phrases have one there.
 fn text_at<'a>(
     line: &mut [u8],
     index: &'a [u32],
     book: &'a [u8],
     own: &'a [u8],
+    n: usize,
     is_own: bool,
     i: usize,
 ) -> usize
-    requires { ⌜ Indexed (now index) (now book) ⌝ }
+    requires { ⌜ Indexed (now index) (now book) × OwnNumbers (now index) (now book) (now own) n ⌝ }
 {
     if is_own {
-        return put_pairs(line, 0, phrase_text(index, book, own, true, i));
+        if i < n {
+            return put_pairs(line, 0, phrase_text(index, book, own, true, i));
+        }
+        return 0;
     }
     if i < phrases::count_of(index) {
         return put_pairs(line, 0, phrase_text(index, book, own, false, i));
@@ -68,9 +97,9 @@ fn text_at<'a>(
     0
 }
 
-// The text of a phrase, empty where the book has none at the place.
+// The text of a phrase, empty where there is none at the place.
 fn text(line: &mut [u8], s: &[u8], at: usize) -> usize {
-    let mut index = [0u32; 385];
+    let mut index = [0u32; 449];
     let second = vectors::past_slice(s, at);
     let third = vectors::past_slice(s, second);
     let is_own = vectors::number(s, third) == 1;
@@ -79,7 +108,10 @@ fn text(line: &mut [u8], s: &[u8], at: usize) -> usize {
     let own = vectors::slice(s, second);
     match phrases::check_book(book, &mut index) {
         Book::Bad(bad) => put_labelled(line, 0, b"N,", bad),
-        Book::Holds(_) => text_at(line, &index, book, own, is_own, i),
+        Book::Holds(_) => {
+            let n = enter_lines(&mut index, book, own, 64);
+            text_at(line, &index, book, own, n, is_own, i)
+        }
     }
 }
 

@@ -19,13 +19,13 @@ ghost use Rattle.walking.specs.Call.{walkCall};
 pub fn walk(guide: &[u8], book: &[u8], answers: &[i32], transcript: &mut [u8]) -> Ran
     ensures { λ r. ⌜ (ranAnswer r, now (transcript .exit)) ≡ walkCall (now (guide .entry)) (now (book .entry)) (now (answers .entry)) (now (transcript .entry)) ⌝ }
 {
-    let mut index = [0u32; 385];
+    let mut index = [0u32; 417];
     match phrases::check_book(book, &mut index) {
         Book::Bad(line) => Ran::Refused(Refusal {
             cause: Cause::Book,
             place: line,
         }),
-        Book::Holds(_) => match check_lines::check(Form::Guide, &index, book, guide) {
+        Book::Holds(_) => match check_lines::check(Form::Guide, &mut index, book, guide) {
             Checked::Refused(r) => Ran::Refused(r),
             Checked::Fine {
                 own: _,

@@ -14,7 +14,7 @@ ghost use Rattle.phrases.specs.Index.{CheckedBook};
 ghost use Rattle.listing.specs.Calls.{writePlateCall};
 
 // The plate with a book that is checked.
-fn write_with(listing: &[u8], index: &[u32], book: &[u8], plate: &mut [u8]) -> Written
+fn write_with(listing: &[u8], index: &mut [u32], book: &[u8], plate: &mut [u8]) -> Written
     requires { ⌜ CheckedBook (now index) (now book) ⌝ }
     ensures { λ r. ⌜ (writtenAnswer r, now (plate .exit)) ≡ writePlateCall (now (listing .entry)) (now (book .entry)) (now (plate .entry)) ⌝ }
 {
@@ -38,15 +38,15 @@ pub fn write_plate(listing: &[u8], book: &[u8], plate: &mut [u8]) -> Written
     ensures { λ r. ⌜ (writtenAnswer r, now (plate .exit)) ≡ writePlateCall (now (listing .entry)) (now (book .entry)) (now (plate .entry)) ⌝ }
 {
     if book.len() == 0 {
-        let index = [0u32; 129];
-        return write_with(listing, &index, book, plate);
+        let mut index = [0u32; 161];
+        return write_with(listing, &mut index, book, plate);
     }
-    let mut index = [0u32; 385];
+    let mut index = [0u32; 417];
     match phrases::check_book(book, &mut index) {
         Book::Bad(line) => Written::Refused(Refusal {
             cause: Cause::Book,
             place: line,
         }),
-        Book::Holds(_) => write_with(listing, &index, book, plate),
+        Book::Holds(_) => write_with(listing, &mut index, book, plate),
     }
 }

@@ -8,7 +8,7 @@ ghost use Rattle.bits.specs.Bits.{bitsOf, bytesBits};
 ghost use Rattle.text.specs.Parts.{split, comma};
 ghost use Rattle.phrases.specs.Phrases.{Phrases};
 ghost use Rattle.phrases.specs.Lookup.{phrasesIn};
-ghost use Rattle.phrases.specs.Index.{Listed};
+ghost use Rattle.phrases.specs.Own.{Listed};
 ghost use Rattle.transcript.specs.Statement.{input, inputs, print, printex};
 ghost use Rattle.plate.specs.Program.{ifSkip};
 ghost use Rattle.plate.specs.Writing.{opCode, statementBits, instructionBits};

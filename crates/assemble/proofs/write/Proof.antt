@@ -25,13 +25,13 @@ lend-requires : tie.Need-lend-requires
 lend-requires c κs = search needs
 
 returns : tie.Need-returns
-returns c = lent-past _ _ _ (c .before .before .before .before .before .before .before .before .before .before .before .pre .0 .1) _ _ _ (c .before .before .before .before .produce .ensures) (c .before .line .given .1)
+returns c = lent-past _ _ _ (c .before .before .before .before .before .before .before .before .before .before .before .pre .0 .numbers .whole) _ _ _ (c .before .before .before .before .produce .ensures) (c .before .line .given .1)
 
 same-length : tie.Need-same-length
 same-length c = search needs
 
 returns-2 : tie.Need-returns-2
-returns-2 c = c .before .before .lend .ensures ∙ lent-made _ _ _ (c .before .before .before .before .before .before .before .before .before .before .before .before .before .before .before .before .pre .0 .1) _ _ _ (c .before .before .before .before .before .before .before .before .before .produce .ensures) (c .before .before .before .before .before .before .bits .given .1) refl
+returns-2 c = c .before .before .lend .ensures ∙ lent-made _ _ _ (c .before .before .before .before .before .before .before .before .before .before .before .before .before .before .before .before .pre .0 .numbers .whole) _ _ _ (c .before .before .before .before .before .before .before .before .before .produce .ensures) (c .before .before .before .before .before .before .bits .given .1) refl
 
 pub write-spec : {M : Type 1} → statement M
 write-spec =

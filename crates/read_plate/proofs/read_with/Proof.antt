@@ -17,6 +17,9 @@ read-own-requires c κs = search needs
 same-length : tie.Need-same-length
 same-length c = search needs
 
+same-length-2 : tie.Need-same-length-2
+same-length-2 c = search needs
+
 returns : tie.Need-returns
 returns c = search needs
 
@@ -24,10 +27,13 @@ slice-aggregate-read-own-2 : tie.Need-slice-aggregate-read-own-2
 slice-aggregate-read-own-2 c = search needs
 
 read-own-requires-2 : tie.Need-read-own-requires-2
-read-own-requires-2 c κs = (c .before .before .before .before .before .before .before .before .pre, none-room _ [] (c .before .before .before .has-own .ensures) (c .before .before .if1 .left))
+read-own-requires-2 c κs = (c .before .before .before .before .before .before .before .before .before .pre, none-room _ [] (c .before .before .before .before .has-own .ensures) (c .before .before .before .if1 .left))
 
-same-length-2 : tie.Need-same-length-2
-same-length-2 c = search needs
+same-length-3 : tie.Need-same-length-3
+same-length-3 c = search needs
+
+same-length-4 : tie.Need-same-length-4
+same-length-4 c = search needs
 
 returns-2 : tie.Need-returns-2
 returns-2 c = search needs
@@ -40,8 +46,10 @@ read-with-spec =
     slice-aggregate-read-own
     read-own-requires
     same-length
+    same-length-2
     returns
     slice-aggregate-read-own-2
     read-own-requires-2
-    same-length-2
+    same-length-3
+    same-length-4
     returns-2)

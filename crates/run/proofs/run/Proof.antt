@@ -38,7 +38,7 @@ slice-aggregate-run-with-2 : tie.Need-slice-aggregate-run-with-2
 slice-aggregate-run-with-2 c = search needs
 
 run-with-requires-2 : tie.Need-run-with-requires-2
-run-with-requires-2 c κs = checked-book _ _ _ (c .before .before .before .before .before .before .check-book .ensures .0) (c .before .before .before .before .before .before .check-book .ensures .1) (c .before .before .before .enum-told .given .1)
+run-with-requires-2 c κs = checked-book _ _ _ (c .before .before .before .before .before .before .check-book .ensures .0) (c .before .before .before .before .before .before .check-book .ensures .1) (search needs) (c .before .before .before .enum-told .given .1)
 
 returns-2 : tie.Need-returns-2
 returns-2 c = (call-book _ _ _ _ _ _ (sym (answer-is _ _ (c .before .before .before .before .check-book .ensures .0)) ∙ c .before .line .given .1), refl)

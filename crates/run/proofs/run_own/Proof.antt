@@ -17,20 +17,16 @@ enum-known-c c = search needs
 same-length : tie.Need-same-length
 same-length c = search needs
 
-returns : tie.Need-returns
-returns c = let read = c .before .before .before .before .before .before in
-    (call-scratch _ _ _ (c .before .before .before .before .before .before .before .before .before .before .before .before .before .before .pre .0 .phrases) _ (read .read-contents .ensures .0) _ _ _ _ (c .before .before .c .given .1) (c .if1 .taken), (refl, read .read-contents .ensures .1 .1))
-
-write-requires : tie.Need-write-requires
-write-requires c κs = let read = c .before .before .before .before .before .before .before .before in
-    accepted _ _ _ (c .before .before .before .before .before .before .before .before .before .before .before .before .before .before .before .before .pre .0 .phrases) _ (read .read-contents .ensures .0) _ _ (c .before .before .before .before .c .given .1) (read .read-contents .ensures .1 .0)
-
 same-length-2 : tie.Need-same-length-2
 same-length-2 c = search needs
 
-returns-2 : tie.Need-returns-2
-returns-2 c = let read = c .before .before .before .before .before in
-    (call-plate _ _ _ (c .before .before .before .before .before .before .before .before .before .before .before .before .before .pre .0 .phrases) _ (read .read-contents .ensures .0) _ _ _ _ (c .before .r .given .1), (refl, read .read-contents .ensures .1 .1))
+returns : tie.Need-returns
+returns c = let read = c .before .before .before .before .before .before .before .before .read-contents .ensures in
+    (call-scratch _ _ _ (c .before .before .before .before .before .before .before .before .before .before .before .before .before .before .before .before .before .pre .0 .phrases) _ (read .0) _ _ _ _ (c .before .before .c .given .1) (c .if1 .taken), (refl, read .1 .1 .0))
+
+write-requires : tie.Need-write-requires
+write-requires c κs = let read = c .before .before .before .before .before .before .before .before .before .before .before .read-contents .ensures in
+    accepted _ _ _ (c .before .before .before .before .before .before .before .before .before .before .before .before .before .before .before .before .before .before .before .before .pre .0 .phrases) _ (read .0) _ _ (c .before .before .before .before .before .c .given .1) (read .1 .0)
 
 same-length-3 : tie.Need-same-length-3
 same-length-3 c = search needs
@@ -38,9 +34,22 @@ same-length-3 c = search needs
 same-length-4 : tie.Need-same-length-4
 same-length-4 c = search needs
 
+returns-2 : tie.Need-returns-2
+returns-2 c = let read = c .before .before .before .before .before .before .before .read-contents .ensures in
+    (call-plate _ _ _ (c .before .before .before .before .before .before .before .before .before .before .before .before .before .before .before .before .pre .0 .phrases) _ (read .0) _ _ _ _ (c .before .r .given .1), (refl, read .1 .1 .0))
+
+same-length-5 : tie.Need-same-length-5
+same-length-5 c = search needs
+
+same-length-6 : tie.Need-same-length-6
+same-length-6 c = search needs
+
+same-length-7 : tie.Need-same-length-7
+same-length-7 c = search needs
+
 returns-3 : tie.Need-returns-3
-returns-3 c = let read = c .before .before .before .before .before .before .before .before .before .before .before in
-    (call-run _ _ _ (c .before .before .before .before .before .before .before .before .before .before .before .before .before .before .before .before .before .before .before .pre .0 .phrases) _ (read .read-contents .ensures .0) _ _ _ _ _ (c .before .before .before .before .before .before .before .c .given .1) (c .before .before .before .before .before .if1 .left) (c .before .before .write .ensures), (refl, read .read-contents .ensures .1 .1))
+returns-3 c = let read = c .before .before .before .before .before .before .before .before .before .before .before .before .before .before .read-contents .ensures in
+    (call-run _ _ _ (c .before .before .before .before .before .before .before .before .before .before .before .before .before .before .before .before .before .before .before .before .before .before .before .pre .0 .phrases) _ (read .0) _ _ _ _ _ (c .before .before .before .before .before .before .before .before .c .given .1) (c .before .before .before .before .before .before .if1 .left) (c .before .before .write .ensures), (refl, read .1 .1 .0))
 
 pub run-own-spec : {M : Type 1} → statement M
 run-own-spec =
@@ -50,10 +59,13 @@ run-own-spec =
     enum-known-r
     enum-known-c
     same-length
+    same-length-2
     returns
     write-requires
-    same-length-2
-    returns-2
     same-length-3
     same-length-4
+    returns-2
+    same-length-5
+    same-length-6
+    same-length-7
     returns-3)

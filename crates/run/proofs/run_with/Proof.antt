@@ -20,6 +20,9 @@ same-length c = search needs
 same-length-2 : tie.Need-same-length-2
 same-length-2 c = search needs
 
+same-length-3 : tie.Need-same-length-3
+same-length-3 c = search needs
+
 returns : tie.Need-returns
 returns c = search needs
 
@@ -27,13 +30,16 @@ slice-aggregate-run-own-2 : tie.Need-slice-aggregate-run-own-2
 slice-aggregate-run-own-2 c = search needs
 
 run-own-requires-2 : tie.Need-run-own-requires-2
-run-own-requires-2 c κs = (c .before .before .before .before .before .before .before .before .before .before .pre, none-room _ [] (c .before .before .before .before .has-own .ensures) (c .before .before .before .if1 .left))
-
-same-length-3 : tie.Need-same-length-3
-same-length-3 c = search needs
+run-own-requires-2 c κs = (c .before .before .before .before .before .before .before .before .before .before .before .pre, none-room _ [] (c .before .before .before .before .before .has-own .ensures) (c .before .before .before .before .if1 .left))
 
 same-length-4 : tie.Need-same-length-4
 same-length-4 c = search needs
+
+same-length-5 : tie.Need-same-length-5
+same-length-5 c = search needs
+
+same-length-6 : tie.Need-same-length-6
+same-length-6 c = search needs
 
 returns-2 : tie.Need-returns-2
 returns-2 c = search needs
@@ -47,9 +53,11 @@ run-with-spec =
     run-own-requires
     same-length
     same-length-2
+    same-length-3
     returns
     slice-aggregate-run-own-2
     run-own-requires-2
-    same-length-3
     same-length-4
+    same-length-5
+    same-length-6
     returns-2)

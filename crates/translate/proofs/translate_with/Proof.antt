@@ -1,6 +1,6 @@
 -- `translate_with` meets its contract: the refusal of the guide, or what the plate's writer leaves.
 use mathlib.Core.Path.{sym, _∙_}
-use Rattle.assemble.proofs.Accepted.{few-bytes, accepted-listed, accepted-counted}
+use Rattle.assemble.proofs.Accepted.{few-bytes, accepted-counted}
 use Rattle.translate.proofs.Whole.{call-guide, call-translated}
 use borrow.Author.Needs.{needs}
 use Rattle.translate.proofs.translate_with.Statement.{statement}
@@ -17,17 +17,25 @@ enum-known-own c = search needs
 
 write-requires : tie.Need-write-requires
 write-requires c κs =
-    let guide = sym (c .before .before .before .before .check .ensures) ∙ c .before .before .own .given .1 in
-    (few-bytes _ _ _ guide, accepted-listed _ _ _ guide (c .before .before .before .before .before .before .before .before .before .pre .indexed), accepted-counted _ _ _ guide _)
-
-returns : tie.Need-returns
-returns c = call-guide _ _ _ _ (c .before .before .before .before .before .before .before .before .pre .phrases) (sym (c .before .before .before .check .ensures) ∙ c .before .r .given .1)
+    let checked = c .before .before .before .before .before .before .before .check .ensures in
+    let fine = c .before .before .before .own .given .1 in
+    let guide = sym (checked .0) ∙ fine in
+    (few-bytes _ _ _ guide, checked .1 .0 _ _ fine, accepted-counted _ _ _ guide _)
 
 same-length : tie.Need-same-length
 same-length c = search needs
 
+returns : tie.Need-returns
+returns c = call-guide _ _ _ _ (c .before .before .before .before .before .before .before .before .before .before .before .pre .phrases) (sym (c .before .before .before .before .before .check .ensures .0) ∙ c .before .r .given .1)
+
+same-length-2 : tie.Need-same-length-2
+same-length-2 c = search needs
+
+same-length-3 : tie.Need-same-length-3
+same-length-3 c = search needs
+
 returns-2 : tie.Need-returns-2
-returns-2 c = call-translated _ _ _ _ _ _ (c .before .before .before .before .before .before .before .before .before .before .before .before .pre .phrases) (sym (c .before .before .before .before .before .before .before .check .ensures) ∙ c .before .before .before .before .before .own .given .1) (c .before .before .write .ensures)
+returns-2 c = call-translated _ _ _ _ _ _ (c .before .before .before .before .before .before .before .before .before .before .before .before .before .before .before .before .pre .phrases) (sym (c .before .before .before .before .before .before .before .before .before .before .check .ensures .0) ∙ c .before .before .before .before .before .before .own .given .1) (c .before .before .write .ensures)
 
 pub translate-with-spec : {M : Type 1} → statement M
 translate-with-spec =
@@ -37,6 +45,8 @@ translate-with-spec =
     enum-known-r
     enum-known-own
     write-requires
-    returns
     same-length
+    returns
+    same-length-2
+    same-length-3
     returns-2)

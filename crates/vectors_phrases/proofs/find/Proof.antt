@@ -9,8 +9,17 @@ past-slice-requires c κs = search needs
 past-slice-requires-2 : tie.Need-past-slice-requires-2
 past-slice-requires-2 c κs = search needs
 
+long-number-requires : tie.Need-long-number-requires
+long-number-requires c κs = search needs
+
+past-requires : tie.Need-past-requires
+past-requires c κs = search needs
+
 slice-requires : tie.Need-slice-requires
 slice-requires c κs = search needs
+
+slice-requires-2 : tie.Need-slice-requires-2
+slice-requires-2 c κs = search needs
 
 slice-aggregate-check-book : tie.Need-slice-aggregate-check-book
 slice-aggregate-check-book c = search needs
@@ -30,41 +39,14 @@ put-labelled-requires c κs = search needs
 enum-told : tie.Need-enum-told
 enum-told c = search needs
 
-slice-aggregate-find-phrase : tie.Need-slice-aggregate-find-phrase
-slice-aggregate-find-phrase c = search needs
-
-slice-requires-2 : tie.Need-slice-requires-2
-slice-requires-2 c κs = search needs
-
-long-number-requires : tie.Need-long-number-requires
-long-number-requires c κs = search needs
-
-past-requires : tie.Need-past-requires
-past-requires c κs = search needs
+slice-aggregate-found : tie.Need-slice-aggregate-found
+slice-aggregate-found c = search needs
 
 slice-requires-3 : tie.Need-slice-requires-3
 slice-requires-3 c κs = search needs
 
-find-phrase-requires : tie.Need-find-phrase-requires
-find-phrase-requires c κs = c .before .before .before .before .before .before .before .before .check-book .ensures .1 _ (c .before .before .before .before .before .enum-told .given .1)
-
-enum-known-i : tie.Need-enum-known-i
-enum-known-i c = search needs
-
-place-requires : tie.Need-place-requires
-place-requires c κs = search needs
-
-enum-known-i-2 : tie.Need-enum-known-i-2
-enum-known-i-2 c = search needs
-
-place-requires-2 : tie.Need-place-requires-2
-place-requires-2 c κs = search needs
-
-enum-told-2 : tie.Need-enum-told-2
-enum-told-2 c = search needs
-
-put-byte-requires : tie.Need-put-byte-requires
-put-byte-requires c κs = search needs
+found-requires : tie.Need-found-requires
+found-requires c κs = (c .before .before .before .before .before .before .check-book .ensures .1 _ (c .before .before .before .enum-told .given .1), search needs)
 
 same-length : tie.Need-same-length
 same-length c = search needs
@@ -78,48 +60,26 @@ same-length-2 c = search needs
 returns-2 : tie.Need-returns-2
 returns-2 c = search needs
 
-same-length-3 : tie.Need-same-length-3
-same-length-3 c = search needs
-
-returns-3 : tie.Need-returns-3
-returns-3 c = search needs
-
-same-length-4 : tie.Need-same-length-4
-same-length-4 c = search needs
-
-returns-4 : tie.Need-returns-4
-returns-4 c = search needs
-
 pub find-spec : {M : Type 1} → statement M
 find-spec =
     tie.close
     (tie.spec
     past-slice-requires
     past-slice-requires-2
+    long-number-requires
+    past-requires
     slice-requires
+    slice-requires-2
     slice-aggregate-check-book
     check-book-requires
     enum-known-bad
     slice-aggregate-put-labelled
     put-labelled-requires
     enum-told
-    slice-aggregate-find-phrase
-    slice-requires-2
-    long-number-requires
-    past-requires
+    slice-aggregate-found
     slice-requires-3
-    find-phrase-requires
-    enum-known-i
-    place-requires
-    enum-known-i-2
-    place-requires-2
-    enum-told-2
-    put-byte-requires
+    found-requires
     same-length
     returns
     same-length-2
-    returns-2
-    same-length-3
-    returns-3
-    same-length-4
-    returns-4)
+    returns-2)

@@ -42,11 +42,17 @@ put-labelled-requires c κs = search needs
 enum-told : tie.Need-enum-told
 enum-told c = search needs
 
+slice-aggregate-enter-lines : tie.Need-slice-aggregate-enter-lines
+slice-aggregate-enter-lines c = search needs
+
+enter-lines-requires : tie.Need-enter-lines-requires
+enter-lines-requires c κs = (c .before .before .before .before .check-book .ensures .1 _ (c .before .enum-told .given .1), search needs)
+
 slice-aggregate-text-at : tie.Need-slice-aggregate-text-at
 slice-aggregate-text-at c = search needs
 
 text-at-requires : tie.Need-text-at-requires
-text-at-requires c κs = c .before .before .before .before .before .check-book .ensures .1 _ (c .before .before .enum-told .given .1)
+text-at-requires c κs = search needs
 
 same-length : tie.Need-same-length
 same-length c = search needs
@@ -77,6 +83,8 @@ text-spec =
     slice-aggregate-put-labelled
     put-labelled-requires
     enum-told
+    slice-aggregate-enter-lines
+    enter-lines-requires
     slice-aggregate-text-at
     text-at-requires
     same-length

@@ -1,9 +1,10 @@
 -- `walk` meets its contract: the book's refusal, the guide's, or what the two passes leave.
 use mathlib.Core.Path.{sym, _∙_}
-use borrow.Author.Needs.{needs}
 use Rattle.phrases.proofs.Answers.{answer-is}
+use Rattle.phrases.proofs.CheckedBooks.{checked-book}
 use Rattle.guide.proofs.Accepted.{accepted-clean}
 use Rattle.walk.proofs.Whole.{call-book, call-guide, call-walked}
+use borrow.Author.Needs.{needs}
 use Rattle.walk.proofs.walk.Statement.{statement}
 use Rattle.walk.proofs.walk.Tie as tie
 
@@ -23,7 +24,10 @@ slice-aggregate-check : tie.Need-slice-aggregate-check
 slice-aggregate-check c = search needs
 
 check-requires : tie.Need-check-requires
-check-requires c κs = c .before .before .before .before .check-book .ensures .1 _ (c .before .enum-told .given .1)
+check-requires c κs =
+    let checked = c .before .before .before .before .check-book .ensures in
+    let book = checked-book _ _ _ (checked .0) (checked .1) (search needs) (c .before .enum-told .given .1) in
+    (book .indexed, book .room)
 
 enum-known-r : tie.Need-enum-known-r
 enum-known-r c = search needs
@@ -32,8 +36,7 @@ enum-told-2 : tie.Need-enum-told-2
 enum-told-2 c = search needs
 
 write-requires : tie.Need-write-requires
-write-requires c κs =
-    accepted-clean _ _ _ _ (sym (c .before .before .before .check .ensures) ∙ c .before .enum-told2 .given .1)
+write-requires c κs = accepted-clean _ _ _ _ (sym (c .before .before .before .before .check .ensures .0) ∙ c .before .enum-told2 .given .1)
 
 returns : tie.Need-returns
 returns c =
@@ -41,10 +44,8 @@ returns c =
 
 returns-2 : tie.Need-returns-2
 returns-2 c =
-    let check = c .before .before .before in
-    let n = check .before .before in
-    let book = sym (answer-is _ _ (n .before .before .before .check-book .ensures .0)) ∙ n .enum-told .given .1 in
-    call-guide _ _ _ _ _ _ book (sym (check .check .ensures) ∙ c .before .r .given .1)
+    let book = sym (answer-is _ _ (c .before .before .before .before .before .before .before .before .before .check-book .ensures .0)) ∙ c .before .before .before .before .before .before .enum-told .given .1 in
+    call-guide _ _ _ _ _ _ book (sym (c .before .before .before .before .check .ensures .0) ∙ c .before .r .given .1)
 
 same-length : tie.Need-same-length
 same-length c = search needs
@@ -52,10 +53,10 @@ same-length c = search needs
 returns-3 : tie.Need-returns-3
 returns-3 c =
     let told = c .before .before .before .before in
-    let check = told .before .before in
-    let n = check .before .before in
+    let n = told .before .before .before .before .before in
     let book = sym (answer-is _ _ (n .before .before .before .check-book .ensures .0)) ∙ n .enum-told .given .1 in
-    call-walked _ _ _ _ _ _ _ _ book (sym (check .check .ensures) ∙ told .enum-told2 .given .1) (c .before .before .write .ensures)
+    let guide = sym (told .before .before .before .check .ensures .0) ∙ told .enum-told2 .given .1 in
+    call-walked _ _ _ _ _ _ _ _ book guide (c .before .before .write .ensures)
 
 pub walk-spec : {M : Type 1} → statement M
 walk-spec =

@@ -1,6 +1,6 @@
 -- `write_with` meets its contract: the listing's refusal, or what the plate's writer leaves.
 use mathlib.Core.Path.{sym, _∙_}
-use Rattle.assemble.proofs.Accepted.{accepted-listed, accepted-counted}
+use Rattle.assemble.proofs.Accepted.{accepted-counted}
 use Rattle.write_plate.proofs.Call.{call-listing, call-written}
 use borrow.Author.Needs.{needs}
 use Rattle.write_plate.proofs.write_with.Statement.{statement}
@@ -20,17 +20,24 @@ slice-aggregate-write c = search needs
 
 write-requires : tie.Need-write-requires
 write-requires c κs =
-    let listing = sym (c .before .before .before .before .before .check .ensures) ∙ c .before .before .before .own .given .1 in
-    (accepted-listed _ _ _ listing (c .before .before .before .before .before .before .before .before .before .before .pre .indexed), accepted-counted _ _ _ listing _)
-
-returns : tie.Need-returns
-returns c = call-listing _ _ _ (c .before .before .before .before .before .before .before .before .pre .phrases) _ (sym (c .before .before .before .check .ensures) ∙ c .before .r .given .1)
+    let checked = c .before .before .before .before .before .before .before .before .check .ensures in
+    let fine = c .before .before .before .before .own .given .1 in
+    (checked .1 .0 _ _ fine, accepted-counted _ _ _ (sym (checked .0) ∙ fine) _)
 
 same-length : tie.Need-same-length
 same-length c = search needs
 
+returns : tie.Need-returns
+returns c = call-listing _ _ _ (c .before .before .before .before .before .before .before .before .before .before .before .pre .phrases) _ (sym (c .before .before .before .before .before .check .ensures .0) ∙ c .before .r .given .1)
+
+same-length-2 : tie.Need-same-length-2
+same-length-2 c = search needs
+
+same-length-3 : tie.Need-same-length-3
+same-length-3 c = search needs
+
 returns-2 : tie.Need-returns-2
-returns-2 c = call-written _ _ _ (c .before .before .before .before .before .before .before .before .before .before .before .before .before .pre .phrases) (sym (c .before .before .before .before .before .before .before .before .check .ensures) ∙ c .before .before .before .before .before .before .own .given .1) _ _ (c .before .before .write .ensures)
+returns-2 c = call-written _ _ _ (c .before .before .before .before .before .before .before .before .before .before .before .before .before .before .before .before .before .pre .phrases) (sym (c .before .before .before .before .before .before .before .before .before .before .before .check .ensures .0) ∙ c .before .before .before .before .before .before .before .own .given .1) _ _ (c .before .before .write .ensures)
 
 pub write-with-spec : {M : Type 1} → statement M
 write-with-spec =
@@ -41,6 +48,8 @@ write-with-spec =
     enum-known-own
     slice-aggregate-write
     write-requires
-    returns
     same-length
+    returns
+    same-length-2
+    same-length-3
     returns-2)

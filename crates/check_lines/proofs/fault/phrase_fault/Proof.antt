@@ -12,7 +12,7 @@ returns c = simp (ne-eqb _ _ (c .if1 .taken))
 returns-2 : tie.Need-returns-2
 returns-2 c =
     let b = c .before .before in
-    simp (eq-eqb _ _ (b .if1 .left), b .before .before .before .before .before .before .pre .1, le-ltb _ _ (c .if2 .taken))
+    simp (eq-eqb _ _ (b .if1 .left), b .before .before .before .before .before .before .pre .1 .whole, le-ltb _ _ (c .if2 .taken))
 
 find-phrase-requires : tie.Need-find-phrase-requires
 find-phrase-requires c κs = search needs
@@ -30,19 +30,19 @@ returns-3 : tie.Need-returns-3
 returns-3 c =
     let b = c .before .before .before .before .before in
     let f = found-is _ _ (sym (c .before .before .find-phrase .ensures) ∙ c .enum-told .given .1) in
-    simp (eq-eqb _ _ (b .if1 .left), b .before .before .before .before .before .before .pre .1, lt-ltb _ _ (c .before .before .before .if2 .left), f)
+    simp (eq-eqb _ _ (b .if1 .left), b .before .before .before .before .before .before .pre .1 .whole, lt-ltb _ _ (c .before .before .before .if2 .left), f)
 
 returns-4 : tie.Need-returns-4
 returns-4 c =
     let b = c .before .before .before .before .before in
     let f = found-is _ _ (sym (c .before .before .find-phrase .ensures) ∙ c .enum-told2 .given .1) in
-    simp (eq-eqb _ _ (b .if1 .left), b .before .before .before .before .before .before .pre .1, lt-ltb _ _ (c .before .before .before .if2 .left), f)
+    simp (eq-eqb _ _ (b .if1 .left), b .before .before .before .before .before .before .pre .1 .whole, lt-ltb _ _ (c .before .before .before .if2 .left), f)
 
 returns-5 : tie.Need-returns-5
 returns-5 c =
     let b = c .before .before .before .before .before in
     let f = found-is _ _ (sym (c .before .before .find-phrase .ensures) ∙ c .enum-told3 .given .1) in
-    simp (eq-eqb _ _ (b .if1 .left), b .before .before .before .before .before .before .pre .1, lt-ltb _ _ (c .before .before .before .if2 .left), f)
+    simp (eq-eqb _ _ (b .if1 .left), b .before .before .before .before .before .before .pre .1 .whole, lt-ltb _ _ (c .before .before .before .if2 .left), f)
 
 pub phrase-fault-spec : {M : Type 1} → statement M
 phrase-fault-spec =

@@ -1,20 +1,17 @@
--- `phrase_text` meets its contract: a text of the book, or the second field of a line of the own phrases.
+-- `phrase_text` meets its contract: a text of the book, or an own phrase.
 use mathlib.Core.Path.{sym, _∙_}
 use Rattle.phrases.specs.Lookup.{phraseIn}
+use Rattle.phrases.specs.Own.{ownText}
 use Rattle.phrases.proofs.Texts.{phrase-in-book}
-use borrow.Author.Needs.{needs}
 use Rattle.phrases.proofs.lookup.phrase_text.Statement.{statement}
 use Rattle.phrases.proofs.lookup.phrase_text.Tie as tie
 
-part-requires : tie.Need-part-requires
-part-requires c κs = search needs
-
-part-requires-2 : tie.Need-part-requires-2
-part-requires-2 c κs = search needs
+own-at-requires : tie.Need-own-at-requires
+own-at-requires c κs = let s = c .before .before .before .before in (s .pre .0, s .pre .2 (c .if1 .taken))
 
 returns : tie.Need-returns
-unfolding phraseIn
-returns c = simp (c .before .before .if1 .taken) (rw (c .before .part .ensures) at (c .part2 .ensures))
+unfolding phraseIn ownText
+returns c = simp (c .before .if1 .taken) (c .own-at .ensures)
 
 text-of-requires : tie.Need-text-of-requires
 text-of-requires c κs = let s = c .before .before .before .before in (s .pre .0, s .pre .1 (c .if1 .left))
@@ -26,4 +23,4 @@ returns-2 c =
     c .text-of .ensures ∙ sym (rw (c .before .if1 .left) there)
 
 pub phrase-text-spec : {M : Type 1} → statement M
-phrase-text-spec = tie.close (tie.spec part-requires part-requires-2 returns text-of-requires returns-2)
+phrase-text-spec = tie.close (tie.spec own-at-requires returns text-of-requires returns-2)

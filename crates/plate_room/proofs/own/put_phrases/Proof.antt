@@ -4,7 +4,7 @@ use mathlib.Core.Path.{ap}
 use lib.ListN.{length}
 use borrow.Author.Needs.{needs}
 use Rattle.phrases.specs.Lookup.{ownTexts}
-use Rattle.phrases.proofs.Search.{ownFrom, own-whole, own-none, own-end, own-next}
+use Rattle.phrases.proofs.FirstLines.{ownFrom, own-whole, own-none, own-end, own-next}
 use Rattle.plate.specs.Writing.{phrasesBits}
 use Rattle.text_bits.proofs.Writes.{Left, begun, turned, done}
 use Rattle.plate_room.proofs.own.put_phrases.Statement.{statement}

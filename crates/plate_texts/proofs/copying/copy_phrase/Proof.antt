@@ -10,7 +10,9 @@ accepted-phrase-requires : tie.Need-accepted-phrase-requires
 accepted-phrase-requires c κs = search needs
 
 phrase-text-requires : tie.Need-phrase-text-requires
-phrase-text-requires c κs = (c .before .before .before .before .before .before .pre .0 .indexed, c .accepted-phrase .ensures .1)
+phrase-text-requires c κs =
+    let l = c .before .before .before .before .before .before .pre .0 .listed in
+    (l .indexed, c .accepted-phrase .ensures .1 .0, λ z. l .numbers .each _ (c .accepted-phrase .ensures .1 .1 z))
 
 put-requires : tie.Need-put-requires
 put-requires c κs = search needs

@@ -43,7 +43,7 @@ copy-phrase-requires c κs =
     let pre = c .before .before .before .before .before .before .before .before .before .pre in
     let code = code-read (c .before .before) in
     let some = known-phrase _ _ _ _ _ code (c .before .if1 .taken) in
-    (pre .0, omega (arith, some, book-count (pre .0), pre .0 .whole), c .before .before .before .read-ahead .ensures, code-room _ _ _ (pre .1), known-same (by-phrase _ _ _ (c .before .if1 .taken)) (known-then _ _ _ (pre .1) code))
+    (pre .0, omega (arith, some, book-count (pre .0), pre .0 .listed .numbers .whole), c .before .before .before .read-ahead .ensures, code-room _ _ _ (pre .1), known-same (by-phrase _ _ _ (c .before .if1 .taken)) (known-then _ _ _ (pre .1) code))
 
 same-length : tie.Need-same-length
 same-length c = search needs

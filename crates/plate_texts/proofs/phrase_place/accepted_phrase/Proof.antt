@@ -13,7 +13,7 @@ count-of-requires : tie.Need-count-of-requires
 count-of-requires c κs = search needs
 
 place-ahead-requires : tie.Need-place-ahead-requires
-place-ahead-requires c κs = let b = c .before .before .before .before .before .before in (omega (arith, b .pre .3, b .pre .0 .short), omega arith, omega (arith, b .pre .0 .few))
+place-ahead-requires c κs = let b = c .before .before .before .before .before .before in (omega (arith, b .pre .3, b .pre .0 .short), omega arith, omega (arith, b .pre .0 .listed .few))
 
 returns : tie.Need-returns
 returns c =
@@ -22,7 +22,7 @@ returns c =
     phrase-accepted (b .pre .0) (b .args .at) _ 2 _ (c .before .before .count-of .ensures) e (b .pre .1) (b .pre .2) (omega arith) (b .pre .4) (c .place-ahead .ensures)
 
 place-ahead-requires-2 : tie.Need-place-ahead-requires-2
-place-ahead-requires-2 c κs = let b = c .before .before .before .before .before .before .before in (omega (arith, b .pre .3, b .pre .0 .short), omega arith, omega (arith, c .before .before .count-of .ensures, book-count (b .pre .0), b .pre .0 .indexed .few))
+place-ahead-requires-2 c κs = let b = c .before .before .before .before .before .before .before in (omega (arith, b .pre .3, b .pre .0 .short), omega arith, omega (arith, c .before .before .count-of .ensures, book-count (b .pre .0), b .pre .0 .listed .indexed .few))
 
 returns-2 : tie.Need-returns-2
 returns-2 c =
@@ -34,7 +34,7 @@ part-ahead-requires : tie.Need-part-ahead-requires
 part-ahead-requires c κs = search needs
 
 place-ahead-requires-3 : tie.Need-place-ahead-requires-3
-place-ahead-requires-3 c κs = let b = c .before .before .before .before .before .before .before .before .before in (omega (arith, b .pre .3, b .pre .0 .short), omega arith, omega (arith, c .before .before .before .before .count-of .ensures, book-count (b .pre .0), b .pre .0 .indexed .few))
+place-ahead-requires-3 c κs = let b = c .before .before .before .before .before .before .before .before .before in (omega (arith, b .pre .3, b .pre .0 .short), omega arith, omega (arith, c .before .before .before .before .count-of .ensures, book-count (b .pre .0), b .pre .0 .listed .indexed .few))
 
 returns-3 : tie.Need-returns-3
 returns-3 c =
@@ -43,7 +43,7 @@ returns-3 c =
     phrase-accepted (b .pre .0) (b .args .at) _ 3 _ (c .before .before .before .before .before .count-of .ensures) e (b .pre .1) (b .pre .2) (omega arith) (b .pre .4) (c .place-ahead3 .ensures)
 
 place-ahead-requires-4 : tie.Need-place-ahead-requires-4
-place-ahead-requires-4 c κs = let b = c .before .before .before .before .before .before .before .before .before in (omega (arith, b .pre .3, b .pre .0 .short), omega arith, omega (arith, b .pre .0 .few))
+place-ahead-requires-4 c κs = let b = c .before .before .before .before .before .before .before .before .before in (omega (arith, b .pre .3, b .pre .0 .short), omega arith, omega (arith, b .pre .0 .listed .few))
 
 returns-4 : tie.Need-returns-4
 returns-4 c =

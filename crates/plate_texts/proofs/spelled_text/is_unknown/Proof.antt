@@ -18,15 +18,15 @@ array-share-prefix-characters c = search needs
 
 slice-aggregate-is-new : tie.Need-slice-aggregate-is-new
 slice-aggregate-is-new c = let a = c .before .before .before .before .before .before .before .before in
-    let t = copied-text (a .args .size) _ _ _ _ (a .pre .3) (omega arith) (c .before .before .copy-each .ensures .0) in
-    a .pre .3 ∙ sym (ap length t)
+    let t = copied-text (a .args .size) _ _ _ _ (a .pre .4) (omega arith) (c .before .before .copy-each .ensures .0) in
+    a .pre .4 ∙ sym (ap length t)
 
 is-new-requires : tie.Need-is-new-requires
 is-new-requires c κs = search needs
 
 returns : tie.Need-returns
 returns c = let a = c .before .before .before .before .before .before .before .before .before in
-    let t = copied-text (a .args .size) _ _ _ _ (a .pre .3) (omega arith) (c .before .before .before .copy-each .ensures .0) in
+    let t = copied-text (a .args .size) _ _ _ _ (a .pre .4) (omega arith) (c .before .before .before .copy-each .ensures .0) in
     rw t at (c .is-new .ensures)
 
 pub is-unknown-spec : {M : Type 1} → statement M

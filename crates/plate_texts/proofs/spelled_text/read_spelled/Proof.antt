@@ -31,7 +31,7 @@ is-unknown-requires : tie.Need-is-unknown-requires
 is-unknown-requires c κs =
     let e = size-got _ _ _ (c .before .before .before .before .before .last-size .ensures) (c .before .before .before .field .given .1) in
     let b = c .before .before .before .before .before .before .before .before .before .before in
-    (b .pre .0, b .pre .1, got-known e, sym (length-characters _ _) ∙ ap (λ m. length (valuesOf m)) e, sized-few (b .args .plate .now) (b .args .at) _ _ (c .before .is-sized .ensures) (c .if1 .taken))
+    (b .pre .0, b .pre .1, b .pre .2, got-known e, sym (length-characters _ _) ∙ ap (λ m. length (valuesOf m)) e, sized-few (b .args .plate .now) (b .args .at) _ _ (c .before .is-sized .ensures) (c .if1 .taken))
 
 returns-2 : tie.Need-returns-2
 returns-2 c =

@@ -30,7 +30,7 @@ code-read c =
     let b = c .before .before .before .before .before .before .before in
     c .read-code .ensures
     ∙ text-code (phrasesIn (b .args .book .now) (b .args .own .now) (b .args .count)) (c .before .before .count-of .result + b .args .count) _ _
-    (omega (arith, c .before .before .count-of .ensures, book-count (b .pre), (b .pre) .whole))
+    (omega (arith, c .before .before .count-of .ensures, book-count (b .pre), b .pre .listed .numbers .whole))
 
 -- a text that is spelled out behind its code
 spelled-there : (c : tie.Else1) →
@@ -47,7 +47,7 @@ count-of-requires c κs = search needs
 
 add-n : tie.Need-add-n
 add-n c = let b = c .before .before .before .before .before in
-    omega (arith, c .count-of .ensures, book-count (b .pre), b .pre .indexed .few, b .pre .few)
+    omega (arith, c .count-of .ensures, book-count (b .pre), b .pre .listed .indexed .few, b .pre .listed .few)
 
 read-ahead-requires : tie.Need-read-ahead-requires
 read-ahead-requires c κs = search needs
@@ -102,7 +102,7 @@ is-sized-requires c κs = search needs
 returns-4 : tie.Need-returns-4
 returns-4 c =
     let b = c .before .before .before .before .before .before .before .before .before .before .before .before .before .before .before .before .before .before in
-    let none = none-there (b .args .index .now) _ (b .args .own .now) (b .args .count) _ (b .pre .indexed) (omega (arith, c .before .before .before .before .before .before .before .before .before .before .before .before .before .count-of .ensures)) in
+    let none = none-there (b .args .index .now) _ (b .args .own .now) (b .args .count) _ (b .pre .listed .indexed) (omega (arith, c .before .before .before .before .before .before .before .before .before .before .before .before .before .count-of .ensures)) in
     ap (endWith 0) (spelled-got _ _ _ _ (c .before .before .is-sized .ensures) _ _ (size-got _ _ _ (c .before .before .before .before .before .before .read-size .ensures) (c .before .before .before .before .characters .given .1))
     (c .before .if2 .taken) none ∙ spelled-there (c .before .before .before .before .before .before .before))
 
@@ -110,7 +110,7 @@ is-unknown-requires : tie.Need-is-unknown-requires
 is-unknown-requires c κs =
     let b = c .before .before .before .before .before .before .before .before .before .before .before .before .before .before .before .before .before .before in
     let e = size-got _ _ _ (c .before .before .before .before .before .before .read-size .ensures) (c .before .before .before .before .characters .given .1) in
-    (b .pre .short, b .pre .indexed, got-known e, sym (length-characters _ _) ∙ ap (λ m. length (valuesOf m)) e, sized-few (b .args .plate .now) (b .args .at) _ _ (c .before .before .is-sized .ensures) (c .before .if2 .taken))
+    (b .pre .short, b .pre .listed .indexed, b .pre .listed .numbers, got-known e, sym (length-characters _ _) ∙ ap (λ m. length (valuesOf m)) e, sized-few (b .args .plate .now) (b .args .at) _ _ (c .before .before .is-sized .ensures) (c .before .if2 .taken))
 
 returns-5 : tie.Need-returns-5
 returns-5 c =

@@ -7,7 +7,7 @@ use native.Mathlib.Omega.{arith}
 use lib.ListN.{length}
 use Rattle.output.specs.Pour.{poured}
 use Rattle.phrases.specs.Lookup.{ownTexts}
-use Rattle.phrases.proofs.Search.{ownFrom, own-whole, own-end, own-none, own-next}
+use Rattle.phrases.proofs.FirstLines.{ownFrom, own-whole, own-end, own-none, own-next}
 use Rattle.listing.specs.Listing.{phraseFields, linesText}
 use Rattle.listing_lines.proofs.Pieces.{LeftOf, lines-pieces, of-next, of-end}
 use Rattle.read_plate.proofs.phrase_lines.put_phrases.Statement.{statement}

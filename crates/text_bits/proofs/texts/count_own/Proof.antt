@@ -5,7 +5,7 @@ use mathlib.Core.Path.{_≡_, ap}
 use lib.ListN.{length}
 use borrow.Author.Needs.{needs}
 use Rattle.phrases.specs.Lookup.{ownTexts}
-use Rattle.phrases.proofs.Search.{ownFrom, own-whole, own-none, own-end, own-next}
+use Rattle.phrases.proofs.FirstLines.{ownFrom, own-whole, own-none, own-end, own-next}
 use Rattle.text_bits.proofs.texts.count_own.Statement.{statement}
 use Rattle.text_bits.proofs.texts.count_own.Tie as tie
 

@@ -32,7 +32,7 @@ returns c =
     let n = c .before .before .before .before .before in
     let start = n .before .before .before .before .before in
     let a = start .args in
-    let e = indexed-count _ _ (start .pre .4 .0) ∙ sym (n .count-of .ensures) ∙ c .before .before .before .before .if1 .taken in
+    let e = indexed-count _ _ (start .pre .4 .indexed) ∙ sym (n .count-of .ensures) ∙ c .before .before .before .before .if1 .taken in
     let bit = own-bit-no-book (a .source) (bookTexts (a .book .now)) (ownTexts (a .count) (a .own .now)) e in
     rw (bit, append-nil, ← phrase-code (a .width) (a .front)) (c .before .before .put-behind .ensures)
 
@@ -49,7 +49,7 @@ returns-2 : tie.Need-returns-2
 returns-2 c =
     let start = c .before .before .before .before .before .before .before .before .before .before .before in
     let a = start .args in
-    let e = start .pre .4 .1 ∙ c .before .before .before .before .if2 .taken in
+    let e = start .pre .4 .numbers .whole ∙ c .before .before .before .before .if2 .taken in
     let bit = own-bit-no-own (a .source) (bookTexts (a .book .now)) (ownTexts (a .count) (a .own .now)) e in
     rw (bit, append-nil, ← phrase-code (a .width) (a .front)) (c .before .before .put-behind2 .ensures)
 
@@ -75,7 +75,7 @@ returns-3 c =
     let a = start .args in
     let listed = start .pre .4 in
     let bit = own-bit-both (a .source) (bookTexts (a .book .now)) (ownTexts (a .count) (a .own .now))
-    (λ e. c .before .before .before .before .before .if1 .left (n .count-of .ensures ∙ sym (indexed-count _ _ (listed .0)) ∙ e)) (λ e. c .before .before .before .before .if2 .left (sym (listed .1) ∙ e)) in
+    (λ e. c .before .before .before .before .before .if1 .left (n .count-of .ensures ∙ sym (indexed-count _ _ (listed .indexed)) ∙ e)) (λ e. c .before .before .before .before .if2 .left (sym (listed .numbers .whole) ∙ e)) in
     rw (bit, ← source-code (a .width) (a .front) (a .source) (start .pre .2)) (c .before .before .put-behind3 .ensures)
 
 pub put-place-spec : {M : Type 1} → statement M

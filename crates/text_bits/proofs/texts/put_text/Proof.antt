@@ -22,12 +22,12 @@ count-of-requires c κs = search needs
 
 width-of-requires : tie.Need-width-of-requires
 width-of-requires c κs =
-    let listed = c .before .before .before .before .before .before .before .before .before .before .pre .3 .0 in
+    let listed = c .before .before .before .before .before .before .before .before .before .before .pre .3 .indexed in
     omega (arith, c .count-of .ensures, indexed-count _ _ listed, listed .few)
 
 put-place-requires : tie.Need-put-place-requires
 put-place-requires c κs =
-    let listed = c .before .before .before .before .before .before .before .before .before .before .before .before .pre .3 .0 in
+    let listed = c .before .before .before .before .before .before .before .before .before .before .before .before .pre .3 .indexed in
     (search needs, search needs, search needs, rw (c .before .width-of .ensures) (width-fits _ (omega (arith, c .before .before .count-of .ensures, indexed-count _ _ listed, listed .few))), search needs)
 
 enum-known-i-2 : tie.Need-enum-known-i-2
@@ -56,7 +56,7 @@ returns c =
     let f = i .before .before in
     let start = f .before .before .before .before .before .before in
     let found = found-is _ _ (sym (f .find-phrase .ensures) ∙ i .i .given .1) in
-    let size = w .width-of .ensures ∙ ap width (w .before .count-of .ensures ∙ sym (indexed-count _ _ (start .pre .3 .0))) in
+    let size = w .width-of .ensures ∙ ap width (w .before .count-of .ensures ∙ sym (indexed-count _ _ (start .pre .3 .indexed))) in
     rw found (simp append-assoc (simp append-assoc at (rw size at (c .before .before .put-place .ensures))))
 
 same-length-2 : tie.Need-same-length-2
@@ -70,7 +70,7 @@ returns-2 c =
     let f = i .before .before in
     let start = f .before .before .before .before .before .before in
     let found = found-is _ _ (sym (f .find-phrase .ensures) ∙ i .i2 .given .1) in
-    let size = w .width-of2 .ensures ∙ ap width (sym (start .pre .3 .1)) in
+    let size = w .width-of2 .ensures ∙ ap width (sym (start .pre .3 .numbers .whole)) in
     rw found (simp append-assoc (simp append-assoc at (rw size at (c .before .before .put-place2 .ensures))))
 
 same-length-3 : tie.Need-same-length-3

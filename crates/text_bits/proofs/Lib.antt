@@ -1,5 +1,4 @@
 pub mod Writes
 pub mod TextBits
 pub mod Characters
-pub mod Complements
 pub mod Codes

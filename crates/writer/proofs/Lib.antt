@@ -1,2 +1,3 @@
 pub mod LineBits
 pub mod Codes
+mod Complements

@@ -11,24 +11,18 @@ ghost use Rattle.phrases.specs.Lookup.{phrasesIn};
 ghost use Rattle.phrases.specs.Own.{Listed};
 ghost use Rattle.transcript.specs.Statement.{input, inputs, print, printex};
 ghost use Rattle.plate.specs.Program.{ifSkip};
-ghost use Rattle.plate.specs.Writing.{opCode, statementBits, instructionBits};
-use text_bits::put_constant;
+ghost use Rattle.plate.specs.Writing.{opCode, constantBits, statementBits, instructionBits};
+use crate::constants::is_short;
+use crate::constants::to_bits;
 use text_bits::put_text;
 use text_bits::put_texts;
 use transcript::Op;
 use transcript::Test;
 
-// A 3-bit code and a register.
-fn put_code(out: &mut [u8], at: usize, code: usize, register: usize) -> usize
-    requires { ⌜ code ≤ 7 ⌝ }
-    ensures { λ r. ⌜ (r, bytesBits (now (out .exit))) ≡ poured at (bitsOf 3 code ++ bitsOf 5 register) (bytesBits (now (out .entry))) ⌝ }
-{
-    bits_out::put_bits(out, at, 8, code * 32 + register % 32)
-}
-
 // The number of an OP.
 fn op_code(op: Op) -> usize
     ensures { λ r. ⌜ r ≡ opCode op ⌝ }
+    ensures { λ r. ⌜ r ≤ 7 ⌝ }
 {
     match op {
         Op::Eq => 0,
@@ -119,14 +113,33 @@ pub fn put_goto(out: &mut [u8], at: usize, skip: usize) -> usize
     bits_out::put_bits(out, at, 12, 2048 + skip % 512)
 }
 
+// The fields of an if, of 38 or 54 bits, as one number.
+fn put_test(
+    out: &mut [u8],
+    at: usize,
+    register: usize,
+    op: usize,
+    constant: i32,
+    skip: usize,
+) -> usize
+    requires { ⌜ op ≤ 7 ⌝ }
+    ensures { λ r. ⌜ (r, bytesBits (now (out .exit))) ≡ poured at (bitsOf 3 5 ++ bitsOf 5 register ++ bitsOf 3 op ++ constantBits constant ++ bitsOf 9 skip) (bytesBits (now (out .entry))) ⌝ }
+{
+    let front = (160 + register % 32) * 8 + op;
+    let low = to_bits(constant) as usize;
+    if is_short(constant) {
+        let value = front * 4 * 65536 + low % 65536;
+        return bits_out::put_bits(out, at, 38, value * 512 + skip % 512);
+    }
+    let value = (front * 4 + 1) * 4294967296 + low;
+    bits_out::put_bits(out, at, 54, value * 512 + skip % 512)
+}
+
 // An if. The phrases do not matter.
 pub fn put_if(out: &mut [u8], at: usize, test: Test, skip: usize) -> usize
     requires { ⌜ length (now out) ≤ 2953 ⌝ }
     ensures { λ r. ⌜ ((c : Phrases) → (r, bytesBits (now (out .exit))) ≡ poured at (instructionBits c (ifSkip test skip)) (bytesBits (now (out .entry)))) ⌝ }
 {
     let op = test.op;
-    let mut end = put_code(out, at, 5, test.register);
-    end = bits_out::put_bits(out, end, 3, op_code(op));
-    end = put_constant(out, end, test.constant);
-    bits_out::put_bits(out, end, 9, skip)
+    put_test(out, at, test.register, op_code(op), test.constant, skip)
 }

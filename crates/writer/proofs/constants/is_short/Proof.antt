@@ -1,8 +1,8 @@
 -- `is_short` meets its contract: two tests by the constant's sign.
 use mir.Facts.{toZ-ofZ}
-use Rattle.text_bits.proofs.Complements.{short-not, short-top}
-use Rattle.text_bits.proofs.constants.is_short.Statement.{statement}
-use Rattle.text_bits.proofs.constants.is_short.Tie as tie
+use Rattle.writer.proofs.Complements.{short-not, short-top}
+use Rattle.writer.proofs.constants.is_short.Statement.{statement}
+use Rattle.writer.proofs.constants.is_short.Tie as tie
 
 returns : tie.Need-returns
 returns c = short-not (c .before .args .c) (rw (toZ-ofZ (c .before .fits .c)) at (c .if1 .taken))

@@ -1,9 +1,9 @@
 -- `to_bits` meets its contract: a constant below 0 is what its complement lacks to 32 ones.
 use native.Mathlib.Omega.{arith}
 use Rattle.decimals.proofs.Signs.{Plain, Minus, plain, signed}
-use Rattle.text_bits.proofs.Complements.{plain-complement, minus-complement}
-use Rattle.text_bits.proofs.constants.to_bits.Statement.{statement}
-use Rattle.text_bits.proofs.constants.to_bits.Tie as tie
+use Rattle.writer.proofs.Complements.{plain-complement, minus-complement}
+use Rattle.writer.proofs.constants.to_bits.Statement.{statement}
+use Rattle.writer.proofs.constants.to_bits.Tie as tie
 
 -- the constant, from 0 on and below 0
 unsigned : (c : tie.Then1) → Plain (c .before .args .c)

@@ -12,3 +12,7 @@ pub mod CleanLines
 pub mod CleanTexts
 pub mod Begins
 pub mod LineTexts
+pub mod KnownFields
+pub mod KnownValues
+pub mod KnownLines
+pub mod KnownConstants

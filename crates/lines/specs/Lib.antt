@@ -4,3 +4,4 @@ pub mod Answers
 pub mod Words
 pub mod Fields
 pub mod Clean
+pub mod Known

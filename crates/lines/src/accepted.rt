@@ -1,4 +1,4 @@
-// One line by itself that is known to have none of the causes 3, 4 and 5: its bytes and texts are not judged again.
+// One line by itself that is known to have none of the causes 3, 4 and 5: its bytes, numbers and texts are not judged again.
 ghost use mathlib.Core.Path.{_≡_};
 ghost use mathlib.Core.Bool.{true};
 ghost use mathlib.Core.List.{[]};
@@ -10,14 +10,14 @@ ghost use Rattle.lines.specs.Answers.{headOf};
 ghost use Rattle.lines.specs.Clean.{isClean, CleanLine};
 use crate::Form;
 use crate::Head;
-use crate::fields::TestRead;
-use crate::fields::behind;
 use crate::fields::count_fields;
-use crate::fields::field_at;
-use crate::fields::read_test;
+use crate::values::known_constant;
+use crate::values::known_number;
+use crate::values::known_operator;
+use crate::values::known_register;
 use crate::words::Kind;
 use causes::Cause;
-use decimals::Natural;
+use transcript::Test;
 
 // The kind of such a line: its second byte tells it, and the sixth where two words begin alike.
 pub fn accepted_kind(s: &[u8]) -> Kind
@@ -94,14 +94,8 @@ fn accepted_input(s: &[u8], a: usize) -> Head
     requires { ⌜ isClean (line.inputLine (partsFrom comma a (now s))) ≡ true ⌝ }
     ensures { λ r. ⌜ r ≡ headOf (line.inputLine (partsFrom comma a (now (s .entry)))) ⌝ }
 {
-    let Natural::Is(register) = decimals::read_natural(field_at(s, a), 31) else {
-        return Head::Faulty {
-            cause: Cause::Value,
-        };
-    };
-    Head::Input {
-        register: register as usize,
-    }
+    let r = known_register(s, a);
+    Head::Input { register: r.value }
 }
 
 // `inputs,R,TEXT,OPTION,..`.
@@ -109,13 +103,9 @@ fn accepted_inputs(s: &[u8], a: usize) -> Head
     requires { ⌜ isClean (line.inputsLine (partsFrom comma a (now s))) ≡ true ⌝ }
     ensures { λ r. ⌜ r ≡ headOf (line.inputsLine (partsFrom comma a (now (s .entry)))) ⌝ }
 {
-    let Natural::Is(register) = decimals::read_natural(field_at(s, a), 31) else {
-        return Head::Faulty {
-            cause: Cause::Value,
-        };
-    };
+    let r = known_register(s, a);
     Head::Inputs {
-        register: register as usize,
+        register: r.value,
         options: count_fields(s, a) - 2,
     }
 }
@@ -125,23 +115,22 @@ fn accepted_if(form: Form, s: &[u8], a: usize) -> Head
     requires { ⌜ isClean (line.ifFields form (partsFrom comma a (now s))) ≡ true ⌝ }
     ensures { λ r. ⌜ r ≡ headOf (line.ifFields form (partsFrom comma a (now (s .entry)))) ⌝ }
 {
-    let TestRead::Is(test) = read_test(s, a) else {
-        return Head::Faulty {
-            cause: Cause::Value,
-        };
+    let r = known_register(s, a);
+    let o = r.next;
+    let op = known_operator(s, o);
+    let c = known_constant(s, o + 3);
+    let test = Test {
+        register: r.value,
+        op,
+        constant: c.value,
     };
     if let Form::Guide = form {
         return Head::If { test };
     }
-    let c = behind(s, behind(s, a));
-    let Natural::Is(skip) = decimals::read_natural(field_at(s, behind(s, c)), 511) else {
-        return Head::Faulty {
-            cause: Cause::Value,
-        };
-    };
+    let k = known_number(s, c.next);
     Head::IfSkip {
         test,
-        skip: skip as usize,
+        skip: k.value,
     }
 }
 
@@ -150,12 +139,6 @@ fn accepted_goto(form: Form, s: &[u8], a: usize) -> Head
     requires { ⌜ isClean (line.gotoFields form (partsFrom comma a (now s))) ≡ true ⌝ }
     ensures { λ r. ⌜ r ≡ headOf (line.gotoFields form (partsFrom comma a (now (s .entry)))) ⌝ }
 {
-    let Natural::Is(skip) = decimals::read_natural(field_at(s, a), 511) else {
-        return Head::Faulty {
-            cause: Cause::Value,
-        };
-    };
-    Head::Goto {
-        skip: skip as usize,
-    }
+    let k = known_number(s, a);
+    Head::Goto { skip: k.value }
 }

@@ -6,6 +6,7 @@
 mod accepted;
 mod fields;
 mod line;
+mod values;
 mod words;
 
 pub use accepted::accepted_kind;

@@ -26,7 +26,7 @@ past : (n k : ℕ) → k < n → eqb n k ≡ false
 past n k h = ne-eqb n k (λ e. omega arith)
 
 -- three fields make a test, then a line
-test-given : (r o c : List ℕ) (line : Test → Line) → testLine r o c line ≡ given (testOf r o c) line
+pub test-given : (r o c : List ℕ) (line : Test → Line) → testLine r o c line ≡ given (testOf r o c) line
 unfolding testOf bind
 test-given r o c line = go (register r) (operator o) (constant c)
   where

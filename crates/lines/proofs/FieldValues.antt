@@ -14,14 +14,10 @@ use Rattle.decimals.specs.declared.Constant.{Constant}
 use Rattle.decimals.specs.declared.Constant.the-variants as constant
 use Rattle.decimals.proofs.Answers.{natural-is, natural-wrong, constant-is, constant-wrong}
 use Rattle.transcript.specs.declared.Op.{Op}
-use Rattle.transcript.specs.declared.Test.{Test}
 use Rattle.lines.specs.declared.words.Operator.{Operator}
 use Rattle.lines.specs.declared.words.Operator.the-variants as operator
-use Rattle.lines.specs.declared.fields.TestRead.{TestRead}
-use Rattle.lines.specs.declared.fields.TestRead.the-variants as test
 use Rattle.lines.specs.Line.{operator}
 use Rattle.lines.specs.Words.{operatorAnswer}
-use Rattle.lines.specs.Fields.{testOf, testAnswer}
 
 -- the operator that an answer says
 abbrev pub operatorIn : Operator → Option Op
@@ -31,18 +27,6 @@ operatorIn operator.Wrong = none
 operator-back : (o : Option Op) → o ≡ operatorIn (operatorAnswer o)
 operator-back none = refl
 operator-back (some op) = refl
-
--- the test that an answer says
-abbrev pub testIn : TestRead → Option Test
-testIn (test.Is t) = some t
-testIn test.Wrong = none
-
-test-back : (o : Option Test) → o ≡ testIn (testAnswer o)
-test-back none = refl
-test-back (some t) = refl
-
-pub test-read : (r o c : List ℕ) {a b : TestRead} → a ≡ testAnswer (testOf r o c) → a ≡ b → testOf r o c ≡ testIn b
-test-read r o c e h = test-back (testOf r o c) ∙ ap testIn (sym e ∙ h)
 
 -- p is the field f
 module _ {p f : List ℕ} (e : p ≡ f) where

@@ -16,3 +16,4 @@ pub mod KnownFields
 pub mod KnownValues
 pub mod KnownLines
 pub mod KnownConstants
+pub mod TestFields

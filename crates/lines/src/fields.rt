@@ -1,12 +1,14 @@
 // The fields behind each kind of line: those of the line s from the place a on, parted by commas. Where a is past the line's end there are none.
 ghost use mathlib.Core.Path.{_≡_};
 ghost use mathlib.Core.List.{[]};
+ghost use mathlib.Core.Bool.{cond};
 ghost use Prim.Native.Nat.{_≤_};
-ghost use lib.ListN.{length, drop, getD};
+ghost use lib.ListN.{length, getD};
+ghost use lib.Dec.{eqb};
 ghost use Rattle.text.specs.Parts.{comma, partsFrom};
 ghost use Rattle.text.specs.Text.{Text};
 ghost use Rattle.lines.specs.Line as line;
-ghost use Rattle.lines.specs.Fields.{testOf, testAnswer};
+ghost use Rattle.lines.specs.Fields.{Tests};
 ghost use Rattle.lines.specs.Answers.{headOf};
 use crate::Form;
 use crate::Head;
@@ -17,9 +19,9 @@ use decimals::Constant;
 use decimals::Natural;
 use transcript::Test;
 
-// What reading the R, OP and C of an if finds.
+// What reading the R, OP and C of an if finds: the test, and where C ends.
 pub enum TestRead {
-    Is(Test),
+    Is { test: Test, end: usize },
     Wrong,
 }
 
@@ -32,16 +34,6 @@ pub fn field_at(s: &[u8], a: usize) -> &[u8]
     }
     let e = text::find(s, a, b',');
     &s[a..e]
-}
-
-// Where the fields behind the first begin.
-pub fn behind(s: &[u8], a: usize) -> usize
-    ensures { λ r. ⌜ partsFrom comma r (now (s .entry)) ≡ drop 1 (partsFrom comma a (now (s .entry))) ⌝ }
-{
-    if s.len() < a {
-        return a;
-    }
-    text::find(s, a, b',') + 1
 }
 
 // How many fields there are.
@@ -126,25 +118,37 @@ pub fn read_inputs(s: &[u8], a: usize) -> Head
     }
 }
 
-// The R, OP and C of an if.
-pub fn read_test(s: &[u8], a: usize) -> TestRead
-    ensures { λ r. ⌜ r ≡ testAnswer (testOf (getD (partsFrom comma a (now (s .entry))) 0 []) (getD (partsFrom comma a (now (s .entry))) 1 []) (getD (partsFrom comma a (now (s .entry))) 2 [])) ⌝ }
+// The R, OP and C of an if, one behind the other.
+fn read_test(s: &[u8], a: usize) -> TestRead
+    requires { ⌜ a ≤ length (now s) ⌝ }
+    ensures { λ r. ⌜ Tests (now (s .entry)) (partsFrom comma a (now (s .entry))) r ⌝ }
 {
-    let Natural::Is(register) = decimals::read_natural(field_at(s, a), 31) else {
+    let e = text::find_within(s, a, b',');
+    let Natural::Is(register) = decimals::read_natural(&s[a..e], 31) else {
         return TestRead::Wrong;
     };
-    let b = behind(s, a);
-    let Operator::Is(op) = read_operator(field_at(s, b)) else {
+    if e == s.len() {
+        return TestRead::Wrong;
+    }
+    let b = e + 1;
+    let f = text::find_within(s, b, b',');
+    let Operator::Is(op) = read_operator(&s[b..f]) else {
         return TestRead::Wrong;
     };
-    let Constant::Is(constant) = decimals::read_constant(field_at(s, behind(s, b))) else {
+    if f == s.len() {
+        return TestRead::Wrong;
+    }
+    let c = f + 1;
+    let end = text::find(s, c, b',');
+    let Constant::Is(constant) = decimals::read_constant(&s[c..end]) else {
         return TestRead::Wrong;
     };
-    TestRead::Is(Test {
+    let test = Test {
         register: register as usize,
         op,
         constant,
-    })
+    };
+    TestRead::Is { test, end }
 }
 
 // A guide's `if,R,OP,C`; a listing's `if,R,OP,C,SKIP`.
@@ -160,17 +164,28 @@ pub fn read_if(form: Form, s: &[u8], a: usize) -> Head
     }
 }
 
-fn read_guide_if(s: &[u8], a: usize) -> Head
-    ensures { λ r. ⌜ r ≡ headOf (line.ifFields Form.Guide (partsFrom comma a (now (s .entry)))) ⌝ }
+// The cause of an if with a wrong R, OP or C, which should have n fields.
+fn wrong_test(s: &[u8], a: usize, n: usize) -> Head
+    ensures { λ r. ⌜ r ≡ cond (eqb (length (partsFrom comma a (now (s .entry)))) n) (Head.Faulty Cause.Value) (Head.Faulty Cause.Kind) ⌝ }
 {
-    if count_fields(s, a) != 3 {
-        return Head::Faulty { cause: Cause::Kind };
-    }
-    let TestRead::Is(test) = read_test(s, a) else {
+    if count_fields(s, a) == n {
         return Head::Faulty {
             cause: Cause::Value,
         };
+    }
+    Head::Faulty { cause: Cause::Kind }
+}
+
+fn read_guide_if(s: &[u8], a: usize) -> Head
+    requires { ⌜ a ≤ length (now s) ⌝ }
+    ensures { λ r. ⌜ r ≡ headOf (line.ifFields Form.Guide (partsFrom comma a (now (s .entry)))) ⌝ }
+{
+    let TestRead::Is { test, end } = read_test(s, a) else {
+        return wrong_test(s, a, 3);
     };
+    if end < s.len() {
+        return Head::Faulty { cause: Cause::Kind };
+    }
     Head::If { test }
 }
 
@@ -178,15 +193,18 @@ fn read_listing_if(s: &[u8], a: usize) -> Head
     requires { ⌜ a ≤ length (now s) ⌝ }
     ensures { λ r. ⌜ r ≡ headOf (line.ifFields Form.Listing (partsFrom comma a (now (s .entry)))) ⌝ }
 {
-    if count_fields(s, a) != 4 {
+    let TestRead::Is { test, end } = read_test(s, a) else {
+        return wrong_test(s, a, 4);
+    };
+    if end == s.len() {
         return Head::Faulty { cause: Cause::Kind };
     }
-    let TestRead::Is(test) = read_test(s, a) else {
-        return Head::Faulty {
-            cause: Cause::Value,
-        };
-    };
-    let Natural::Is(skip) = decimals::read_natural(text::part(&s[a..], b',', 3), 511) else {
+    let k = end + 1;
+    let e = text::find(s, k, b',');
+    if e < s.len() {
+        return Head::Faulty { cause: Cause::Kind };
+    }
+    let Natural::Is(skip) = decimals::read_natural(&s[k..e], 511) else {
         return Head::Faulty {
             cause: Cause::Value,
         };

@@ -5,7 +5,7 @@ use mathlib.Core.Path.{_≡_, refl, sym, ap, _∙_}
 use mathlib.Core.List.{List, [], _∷_, _++_}
 use mathlib.Core.Bool.{Bool, true, false, cond}
 use mathlib.Core.Option.{Option, none, some}
-use lib.ListN.{length, drop, getD}
+use lib.ListN.{length, drop, getD, length-drop}
 use lib.Dec.{eqb, ltb}
 use borrow.Author.Tests.{ltb-true, ltb-false, ne-eqb}
 use Rattle.text.specs.Quoted.{bytes}
@@ -67,6 +67,10 @@ module _ (s : List ℕ) (a : ℕ) (fs : List (List ℕ)) (n : ℕ) (f : First s 
 pub known-register : (s : List ℕ) (a n : ℕ) → register (getD (partsFrom comma a s) 0 []) ≡ some n → 2 ≤ length (partsFrom comma a s)
     → RegisterAt s a (partsFrom comma a s) n
 known-register s a n e h = register-at s a (partsFrom comma a s) n (first s a (some-there s a h)) h e
+
+-- a field behind it begins in the line or at its end
+pub field-behind : (s : List ℕ) (a r : ℕ) → 2 ≤ length (partsFrom comma a s) → partsFrom comma r s ≡ drop 1 (partsFrom comma a s) → r ≤ length s
+field-behind s a r h e = fields-there s r (λ z. omega (arith, ap length e, length-drop 1 (partsFrom comma a s)))
 
 -- ---- an operator
 

@@ -1,7 +1,8 @@
 // The lines of a guide and of a listing: one line by itself, in code too; and the check over the lines, as definitions with their
 // laws. The code of the check is in crate check_lines.
 // `read_line` takes any bytes and answers the line's kind with its numbers, or its cause 3, 4 or 5;
-// `accepted_line` does the same for a line that is known to have none of them, and `accepted_kind` answers such a line's kind alone.
+// `accepted_line` does the same for a line that is known to have none of them, and `accepted_kind` answers such a line's kind alone;
+// `behind_register` answers where the fields behind its register begin.
 // Each contract says the whole answer by a definition: specs/Line.antt what a line is, specs/Check.antt what the check finds.
 mod accepted;
 mod fields;
@@ -15,6 +16,7 @@ use causes::Cause;
 use causes::Refusal;
 pub use line::read_line;
 use transcript::Test;
+pub use values::behind_register;
 pub use words::Kind;
 
 // The two texts that are read line by line.

@@ -43,6 +43,17 @@ pub fn known_register(s: &[u8], a: usize) -> Number
     }
 }
 
+// Where the fields behind such a register begin.
+pub fn behind_register(s: &[u8], a: usize) -> usize
+    requires { ⌜ HasValue register (partsFrom comma a (now s)) × (2 ≤ length (partsFrom comma a (now s))) ⌝ }
+    ensures { λ r. ⌜ (partsFrom comma r (now (s .entry)) ≡ drop 1 (partsFrom comma a (now (s .entry)))) × (r ≤ length (now (s .entry))) ⌝ }
+{
+    if s[a + 1] == b',' {
+        return a + 2;
+    }
+    a + 3
+}
+
 // An operator with a field behind it: two letters, and a comma.
 pub fn known_operator(s: &[u8], a: usize) -> Op
     requires { ⌜ HasValue operator (partsFrom comma a (now s)) × (2 ≤ length (partsFrom comma a (now s))) ⌝ }

@@ -49,15 +49,10 @@ pub fn perform(
     ensures { λ r. ⌜ r .machine .steps ≡ m .steps + 1 ⌝ }
 {
     match head {
-        Head::Input { register } => statements::ask(
-            out,
-            at,
-            registers,
-            register,
-            text::part(line, b',', 2),
-            answers,
-            m,
-        ),
+        Head::Input { register } => {
+            let a = lines::behind_register(line, 6);
+            statements::ask(out, at, registers, register, &line[a..], answers, m)
+        }
         Head::Inputs { register, options } => {
             offer(line, register, options, answers, registers, out, at, m)
         }

@@ -33,16 +33,10 @@ pub fn put_line(
     ensures { λ r. ⌜ (r, bytesBits (now (out .exit))) ≡ poured at (lineBits (phrasesIn (now (book .entry)) (now (own .entry)) count) head (split comma (now (line .entry)))) (bytesBits (now (out .entry))) ⌝ }
 {
     match head {
-        Head::Input { register } => put_input(
-            out,
-            at,
-            register,
-            text::part(line, b',', 2),
-            index,
-            book,
-            own,
-            count,
-        ),
+        Head::Input { register } => {
+            let a = lines::behind_register(line, 6);
+            put_input(out, at, register, &line[a..], index, book, own, count)
+        }
         Head::Inputs { register, options } => put_inputs(
             out,
             at,

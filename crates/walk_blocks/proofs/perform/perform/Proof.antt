@@ -2,7 +2,7 @@
 use mathlib.Core.Path.{sym, _∙_}
 use borrow.Author.Needs.{needs}
 use Rattle.lines.proofs.FieldPlaces.{whole-rest}
-use Rattle.lines.proofs.LineTexts.{texts}
+use Rattle.lines.proofs.LineTexts.{texts, asked-register, asked-text}
 use Rattle.walk_blocks.proofs.LineStatements.{is-printex}
 use Rattle.walk_blocks.proofs.perform.perform.Statement.{statement}
 use Rattle.walk_blocks.proofs.perform.perform.Tie as tie
@@ -10,11 +10,20 @@ use Rattle.walk_blocks.proofs.perform.perform.Tie as tie
 enum-known-head : tie.Need-enum-known-head
 enum-known-head c = search needs
 
-part-requires : tie.Need-part-requires
-part-requires c κs = search needs
+behind-register-requires : tie.Need-behind-register-requires
+behind-register-requires c κs = asked-register _ _ _ (c .before .before .before .before .before .pre .1) (c .before .head .given .1)
+
+sub-ask : tie.Need-sub-ask
+sub-ask c = search needs
+
+part-ask-start : tie.Need-part-ask-start
+part-ask-start c = search needs
+
+part-ask-end : tie.Need-part-ask-end
+part-ask-end c = search needs
 
 ask-requires : tie.Need-ask-requires
-ask-requires c κs = (simp (c .before .before .before .before .head .given .1) at (c .before .before .before .before .before .before .before .before .pre .0), search needs)
+ask-requires c κs = (simp (c .before .before .before .before .before .head .given .1) at (c .before .before .before .before .before .before .before .before .before .pre .0), search needs)
 
 enum-known-head-2 : tie.Need-enum-known-head-2
 enum-known-head-2 c = search needs
@@ -55,7 +64,12 @@ same-length : tie.Need-same-length
 same-length c = search needs
 
 returns : tie.Need-returns
-returns c = (simp (c .before .before .before .before .before .before .before .head .given .1) (rw (c .before .before .before .part .ensures) at (c .before .before .ask .ensures .0)), c .before .before .ask .ensures .1 .0)
+returns c =
+    let start = c .before .before .before .before .before .before .before .before .before .before .before .before in
+    let e = c .before .before .before .before .before .before .before .before .head .given .1 in
+    let r = c .before .before .before .before .before .before .behind-register .ensures in
+    let t = asked-text _ _ _ _ (start .pre .1) e (r .0) (r .1) in
+    (simp e (rw t at (c .before .before .ask .ensures .0)), c .before .before .ask .ensures .1 .0)
 
 same-length-2 : tie.Need-same-length-2
 same-length-2 c = search needs
@@ -88,7 +102,10 @@ perform-spec =
     tie.close
     (tie.spec
     enum-known-head
-    part-requires
+    behind-register-requires
+    sub-ask
+    part-ask-start
+    part-ask-end
     ask-requires
     enum-known-head-2
     offer-requires

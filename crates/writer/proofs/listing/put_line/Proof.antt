@@ -3,7 +3,7 @@ use mathlib.Core.Path.{refl, sym, _∙_}
 use borrow.Author.Needs.{needs}
 use Rattle.phrases.specs.Lookup.{phrasesIn}
 use Rattle.lines.proofs.FieldPlaces.{whole-rest}
-use Rattle.lines.proofs.LineTexts.{texts}
+use Rattle.lines.proofs.LineTexts.{texts, asked-register, asked-text}
 use Rattle.writer.proofs.LineBits.{line-writes, line-silent}
 use Rattle.writer.proofs.listing.put_line.Statement.{statement}
 use Rattle.writer.proofs.listing.put_line.Tie as tie
@@ -11,8 +11,17 @@ use Rattle.writer.proofs.listing.put_line.Tie as tie
 enum-known-head : tie.Need-enum-known-head
 enum-known-head c = search needs
 
-part-requires : tie.Need-part-requires
-part-requires c κs = search needs
+behind-register-requires : tie.Need-behind-register-requires
+behind-register-requires c κs = asked-register _ _ _ (c .before .before .before .before .before .before .before .before .pre .2) (c .before .head .given .1)
+
+sub-put-input : tie.Need-sub-put-input
+sub-put-input c = search needs
+
+part-put-input-start : tie.Need-part-put-input-start
+part-put-input-start c = search needs
+
+part-put-input-end : tie.Need-part-put-input-end
+part-put-input-end c = search needs
 
 put-input-requires : tie.Need-put-input-requires
 put-input-requires c κs = search needs
@@ -71,7 +80,12 @@ same-length : tie.Need-same-length
 same-length c = search needs
 
 returns : tie.Need-returns
-returns c = line-writes _ _ _ _ (c .before .before .before .before .before .before .head .given .1) _ _ _ _ refl (rw (c .before .before .before .part .ensures) at (c .before .before .put-input .ensures))
+returns c =
+    let start = c .before .before .before .before .before .before .before .before .before .before .before .before .before .before in
+    let e = c .before .before .before .before .before .before .before .head .given .1 in
+    let r = c .before .before .before .before .before .behind-register .ensures in
+    let t = asked-text _ _ _ _ (start .pre .2) e (r .0) (r .1) in
+    line-writes _ _ _ _ e _ _ _ _ refl (rw t at (c .before .before .put-input .ensures))
 
 same-length-2 : tie.Need-same-length-2
 same-length-2 c = search needs
@@ -121,7 +135,10 @@ put-line-spec =
     tie.close
     (tie.spec
     enum-known-head
-    part-requires
+    behind-register-requires
+    sub-put-input
+    part-put-input-start
+    part-put-input-end
     put-input-requires
     enum-known-head-2
     put-inputs-requires

@@ -1,5 +1,5 @@
 -- The head of a line that is no fault, by its kind: the fields' numbers alone tell it.
-use Prim.Native.Nat.{ℕ, _-_, _≤_}
+use Prim.Native.Nat.{ℕ, _-_}
 use native.Mathlib.Omega.{arith}
 use mathlib.Core.Path.{_≡_, refl, sym, ap, _∙_}
 use mathlib.Core.List.{List, [], _∷_}
@@ -9,7 +9,7 @@ use lib.ListN.{length, getD}
 use lib.Dec.{eqb}
 use Rattle.causes.specs.declared.Cause.{Cause}
 use Rattle.causes.specs.declared.Cause.the-variants.{Byte, Value}
-use Rattle.text.specs.Parts.{comma, split, partsFrom, all}
+use Rattle.text.specs.Parts.{comma, split, all}
 use Rattle.text.specs.Text.{Text, allowed, isText}
 use Rattle.decimals.specs.Number.{register, skip}
 use Rattle.transcript.specs.Statement.{input, inputs}
@@ -75,15 +75,6 @@ inputs-clean (r ∷ t ∷ os) c =
     (λ n v. ap headOf (sym (valued-clean (isText t && all isText os) (says (inputs n t os)) v))) (ap isClean (sym (k .1)) ∙ c)
     ∙ ap headOf (sym (k .1)))
 
--- it has a register, a text and options
-pub inputs-room : (s : List ℕ) (a : ℕ) → Is (inputsLine (partsFrom comma a s)) → 2 ≤ length (partsFrom comma a s)
-inputs-room s a = go (partsFrom comma a s)
-  where
-    go : (fs : List (List ℕ)) → Is (inputsLine fs) → 2 ≤ length fs
-    go [] c = absurd (false≢true c)
-    go (r ∷ []) c = absurd (false≢true c)
-    go (r ∷ t ∷ os) c = omega arith
-
 -- the head of an if, by its test and its skip
 abbrev ifHead : Form → Option Test → Option ℕ → Head
 ifHead Guide t k = headGiven t head.If
@@ -104,13 +95,6 @@ if-head Listing fs c =
     ∙ ap headOf (sym (e ∙ k .1))
 
 module _ (form : Form) (fs : List (List ℕ)) (c : Is (ifFields form fs)) where
-  pub if-wrong : testOf (getD fs 0 []) (getD fs 1 []) (getD fs 2 []) ≡ none → head.Faulty Value ≡ headOf (ifFields form fs)
-  if-wrong h = go form (skip (getD fs 3 [])) ∙ ap (λ t. ifHead form t (skip (getD fs 3 []))) (sym h) ∙ if-head form fs c
-    where
-      go : (form : Form) (k : Option ℕ) → head.Faulty Value ≡ ifHead form none k
-      go Guide k = refl
-      go Listing k = refl
-
   module _ {t : Test} (h : testOf (getD fs 0 []) (getD fs 1 []) (getD fs 2 []) ≡ some t) where
     if-test : ifHead form (some t) (skip (getD fs 3 [])) ≡ headOf (ifFields form fs)
     if-test = ap (λ t. ifHead form t (skip (getD fs 3 []))) (sym h) ∙ if-head form fs c

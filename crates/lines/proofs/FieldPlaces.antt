@@ -5,7 +5,7 @@ use mathlib.Core.List.{List, [], _∷_}
 use mathlib.Core.Bool.{true, false}
 use native.Mathlib.Omega.{arith}
 use lib.ListN.{length, take, drop, getD, length-drop}
-use lib.Seq.{take-all, drop-drop}
+use lib.Seq.{take-all}
 use Rattle.causes.specs.declared.Cause.the-variants.{Kind, Value}
 use Rattle.text.specs.Parts.{comma, partsFrom, split, untilByte}
 use Rattle.text.specs.Text.{Text, textByte, isText}
@@ -13,7 +13,7 @@ use Rattle.decimals.specs.Number.{skip}
 use Rattle.text.proofs.Tests.{all-so}
 use Rattle.text.proofs.Splits.{other, Some, split-some, split-last}
 use Rattle.text.proofs.Bytes.{text-bytes, text-no-comma}
-use Rattle.text.proofs.Places.{parts-some, parts-none, parts-next, at-front}
+use Rattle.text.proofs.Places.{parts-some, parts-none, parts-next}
 use Rattle.lines.specs.declared.Form.the-variants.{Guide, Listing}
 use Rattle.lines.specs.Line.{Line, gotoLine, faulty, given, textLine, bareLine, gotoFields}
 
@@ -22,9 +22,6 @@ module _ (s : List ℕ) (a : ℕ) where
 
   pub first-none : length s < a → getD (partsFrom comma a s) 0 [] ≡ []
   first-none h = rw (parts-none comma s a h)
-
-  pub rest-none : length s < a → partsFrom comma a s ≡ drop 1 (partsFrom comma a s)
-  rest-none h = rw (parts-none comma s a h)
 
   -- a part from the place on to the end
   pub whole-rest : take (length s - a) (drop a s) ≡ drop a s
@@ -57,9 +54,6 @@ module _ (s : List ℕ) (a : ℕ) where
   module _ (e : ℕ) (h : a ≤ length s) (k : e ≡ a + untilByte comma (drop a s)) where
     pub first-field : take (e - a) (drop a s) ≡ getD (partsFrom comma a s) 0 []
     first-field = rw (parts-next comma s a e h k)
-
-    pub rest-fields : partsFrom comma (e + 1) s ≡ drop 1 (partsFrom comma a s)
-    rest-fields = rw (parts-next comma s a e h k)
 
     -- at the line's end it is the only one
     pub only-field : length s ≤ e → partsFrom comma a s ≡ take (e - a) (drop a s) ∷ []
@@ -99,18 +93,3 @@ module _ (s : List ℕ) (a : ℕ) where
     where
       go : Some (split comma (drop a s)) → bareLine Guide line (partsFrom comma a s) ≡ faulty Kind
       go (q, qs, f) = rw (parts-some comma s a h, f)
-
--- ---- the second, the third and the fourth field
-
-pub second-field : (fs gs : List (List ℕ)) {p : List ℕ} → p ≡ getD gs 0 [] → gs ≡ drop 1 fs → p ≡ getD fs 1 []
-second-field fs gs e f = e ∙ ap (λ l. getD l 0 []) f ∙ sym (at-front fs 1)
-
-pub third-field : (fs gs hs : List (List ℕ)) {p : List ℕ} → p ≡ getD hs 0 [] → hs ≡ drop 1 gs → gs ≡ drop 1 fs → p ≡ getD fs 2 []
-third-field fs gs hs e f g = e ∙ ap (λ l. getD l 0 []) (f ∙ ap (drop 1) g ∙ drop-drop 1 1 fs) ∙ sym (at-front fs 2)
-
-pub fourth-field : (fs gs hs is : List (List ℕ)) {p : List ℕ} → p ≡ getD is 0 [] → is ≡ drop 1 hs → hs ≡ drop 1 gs → gs ≡ drop 1 fs
-    → p ≡ getD fs 3 []
-fourth-field fs gs hs is e d f g =
-    e
-    ∙ ap (λ l. getD l 0 []) (d ∙ ap (drop 1) (f ∙ ap (drop 1) g ∙ drop-drop 1 1 fs) ∙ drop-drop 1 2 fs)
-    ∙ sym (at-front fs 3)

@@ -4,15 +4,13 @@ use mathlib.Core.Path.{_≡_, refl, sym, ap, _∙_}
 use mathlib.Core.List.{List}
 use mathlib.Core.Bool.{Bool}
 use mathlib.Core.Option.{Option, none, some}
-use lib.IntN.{ℤ}
 use Rattle.text.specs.Text.{isText}
-use Rattle.decimals.specs.Number.{natural, constant}
-use Rattle.decimals.specs.Answers.{naturalAnswer, constantAnswer}
+use Rattle.decimals.specs.Number.{natural}
+use Rattle.decimals.specs.Answers.{naturalAnswer}
 use Rattle.decimals.specs.declared.Natural.{Natural}
 use Rattle.decimals.specs.declared.Natural.the-variants as natural
-use Rattle.decimals.specs.declared.Constant.{Constant}
 use Rattle.decimals.specs.declared.Constant.the-variants as constant
-use Rattle.decimals.proofs.Answers.{natural-is, natural-wrong, constant-is, constant-wrong}
+use Rattle.decimals.proofs.Answers.{natural-is, natural-wrong}
 use Rattle.transcript.specs.declared.Op.{Op}
 use Rattle.lines.specs.declared.words.Operator.{Operator}
 use Rattle.lines.specs.declared.words.Operator.the-variants as operator
@@ -39,12 +37,6 @@ module _ {p f : List ℕ} (e : p ≡ f) where
 
   pub number-wrong : (limit : ℕ) {r : Natural} → r ≡ naturalAnswer (natural limit p) → r ≡ natural.Wrong → natural limit f ≡ none
   number-wrong limit h k = ap (natural limit) (sym e) ∙ natural-wrong limit p (sym h ∙ k)
-
-  pub constant-read : {r : Constant} {v : ℤ} → r ≡ constantAnswer (constant p) → r ≡ constant.Is v → constant f ≡ some v
-  constant-read h k = ap constant (sym e) ∙ constant-is p (sym h ∙ k)
-
-  pub constant-missed : {r : Constant} → r ≡ constantAnswer (constant p) → r ≡ constant.Wrong → constant f ≡ none
-  constant-missed h k = ap constant (sym e) ∙ constant-wrong p (sym h ∙ k)
 
   pub operator-read : {a b : Operator} → a ≡ operatorAnswer (operator p) → a ≡ b → operator f ≡ operatorIn b
   operator-read h k = ap operator (sym e) ∙ operator-back (operator p) ∙ ap operatorIn (sym h ∙ k)

@@ -2,7 +2,7 @@
 use Prim.Native.Nat.{ℕ, zero, suc, _+_, _-_, _≤_, _<_}
 use native.Mathlib.Omega.{arith}
 use native.Mathlib.Numerals.{sub-one}
-use mathlib.Core.Path.{_≡_, refl, sym, ap, _∙_}
+use mathlib.Core.Path.{_≡_, refl, sym, _∙_}
 use mathlib.Core.List.{List, [], _∷_}
 use mathlib.Core.Option.{Option, none, some, Option·none-ne-some}
 use lib.ListN.{length, drop, getD}
@@ -12,7 +12,6 @@ use Rattle.text.specs.Parts.{comma, partsFrom}
 use Rattle.decimals.specs.Number.{valueFrom, natural, positive, negative, constant, minus}
 use Rattle.decimals.proofs.Decimals.{natural-written}
 use Rattle.decimals.proofs.Signs.{constant-plain}
-use Rattle.lines.specs.Known.{HasDigits}
 use Rattle.lines.proofs.KnownFields.{byte-first, byte-rest}
 use Rattle.lines.proofs.KnownLines.{NumberAt, known-number, field-there}
 

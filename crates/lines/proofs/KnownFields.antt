@@ -10,7 +10,7 @@ use lib.Seq.{length-take-le, getD-take, getD-drop, drop-cons}
 use lib.Dec.{eqb}
 use borrow.Author.Tests.{eqb-true, eq-eqb, ne-eqb}
 use Rattle.text.specs.Parts.{comma, partsFrom, split, onFirst, untilByte}
-use Rattle.text.proofs.Places.{parts-some, parts-none, parts-next}
+use Rattle.text.proofs.Places.{parts-some, parts-next}
 use Rattle.lines.proofs.FieldPlaces.{fields-there}
 
 until-le : (l : List ℕ) → untilByte comma l ≤ length l

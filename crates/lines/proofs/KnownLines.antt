@@ -1,27 +1,24 @@
 -- The fields of a line that is no fault have their values.
-use Prim.Native.Nat.{ℕ, zero, suc, _+_, _-_, _≤_, _<_}
+use Prim.Native.Nat.{ℕ, _+_, _≤_, _<_}
 use native.Mathlib.Omega.{arith}
-use native.Mathlib.Numerals.{sub-one}
 use mathlib.Core.Path.{_≡_, refl, sym, ap, _∙_}
 use mathlib.Core.List.{List, [], _∷_}
 use mathlib.Core.Bool.{Bool, true, false, cond, _&&_, false≢true}
 use mathlib.Core.Option.{Option, none, some, bind, Option·none-ne-some}
 use lib.ListN.{length, drop, getD}
 use lib.Dec.{leb}
-use lib.IntN.{ℤ, pos, negsuc}
+use lib.IntN.{ℤ}
 use borrow.Author.Tests.{leb-true}
 use Rattle.causes.specs.declared.Cause.{Cause}
 use Rattle.text.specs.Parts.{comma, partsFrom, all}
-use Rattle.text.specs.Text.{isText}
-use Rattle.decimals.specs.Number.{isDigit, isNatural, valueFrom, natural, positive, negative, register, constant, skip, minus}
+use Rattle.decimals.specs.Number.{isDigit, isNatural, valueFrom, natural, register, constant, skip}
 use Rattle.text.proofs.Tests.{and-parts}
 use Rattle.decimals.proofs.Decimals.{natural-digits}
 use Rattle.decimals.proofs.Reading.{natural-none}
 use Rattle.transcript.specs.declared.Op.{Op}
-use Rattle.transcript.specs.declared.Test.{Test}
 use Rattle.lines.specs.declared.Form.{Form}
 use Rattle.lines.specs.declared.Form.the-variants.{Guide, Listing}
-use Rattle.lines.specs.Line.{Line, faulty, ifLine, ifSkipLine, given, operator, testLine, optionCount, inputLine, inputsLine, ifFields, gotoFields}
+use Rattle.lines.specs.Line.{Line, faulty, given, operator, optionCount, inputLine, inputsLine, ifFields, gotoFields}
 use Rattle.lines.specs.Fields.{testOf}
 use Rattle.lines.specs.Clean.{isClean}
 use Rattle.lines.specs.Known.{HasValue, HasDigits}

@@ -16,7 +16,6 @@ use Rattle.text.proofs.Places.{parts-some, parts-none, parts-next}
 use Rattle.transcript.specs.declared.Op.{Op}
 use Rattle.transcript.specs.declared.Test.{Test}
 use Rattle.lines.specs.declared.Form.the-variants.{Guide, Listing}
-use Rattle.lines.specs.declared.Head.{Head}
 use Rattle.lines.specs.declared.Head.the-variants as head
 use Rattle.lines.specs.Line.{Line, ifLine, ifSkipLine, faulty, given, operator, ifFields}
 use Rattle.lines.specs.Fields.{testOf}

@@ -72,7 +72,7 @@ pub fn read_input(s: &[u8], a: usize) -> Head
     if s.len() < a {
         return Head::Faulty { cause: Cause::Kind };
     }
-    let e = text::find(s, a, b',');
+    let e = text::find_within(s, a, b',');
     match decimals::read_natural(&s[a..e], 31) {
         Natural::Is(register) => read_text(
             s,

@@ -6,7 +6,6 @@ use Rattle.text.specs.Parts.{comma, partsFrom}
 use Rattle.lines.specs.declared.Head.the-variants.{Goto}
 use Rattle.lines.proofs.CleanLines.{headGiven, goto-clean}
 use Rattle.lines.proofs.KnownLines.{goto-known, known-number}
-use borrow.Author.Needs.{needs}
 use Rattle.lines.proofs.accepted.accepted_goto.Statement.{statement}
 use Rattle.lines.proofs.accepted.accepted_goto.Tie as tie
 

@@ -4,7 +4,6 @@ use Rattle.text.specs.Parts.{comma, partsFrom}
 use Rattle.lines.specs.declared.Head.the-variants.{Input}
 use Rattle.lines.proofs.CleanLines.{headGiven, input-clean}
 use Rattle.lines.proofs.KnownLines.{input-known}
-use borrow.Author.Needs.{needs}
 use Rattle.lines.proofs.accepted.accepted_input.Statement.{statement}
 use Rattle.lines.proofs.accepted.accepted_input.Tie as tie
 

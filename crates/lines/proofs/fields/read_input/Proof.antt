@@ -18,8 +18,8 @@ returns c =
     let g = c .before .before .args in
     simp (parts-none comma (g .s .now) (g .a) (c .if1 .taken))
 
-find-requires : tie.Need-find-requires
-find-requires c κs = search needs
+find-within-requires : tie.Need-find-within-requires
+find-within-requires c κs = search needs
 
 sub-read-natural : tie.Need-sub-read-natural
 sub-read-natural c = search needs
@@ -57,8 +57,8 @@ read-text-requires-2 c κs = search needs
 returns-2 : tie.Need-returns-2
 returns-2 c =
     let g = c .before .before .before .before .before .before .before .before .before .args in
-    let e = c .before .before .before .before .before .before .find .result in
-    let fields = parts-next comma (g .s .now) (g .a) e (c .before .before .before .before .before .before .before .if1 .left) (c .before .before .before .before .before .before .find .ensures .0) in
+    let e = c .before .before .before .before .before .before .find-within .result in
+    let fields = parts-next comma (g .s .now) (g .a) e (c .before .before .before .before .before .before .before .if1 .left) (c .before .before .before .before .before .before .find-within .ensures .0) in
     let register = natural-is 31 _ (sym (c .before .before .before .before .read-natural .ensures) ∙ c .before .before .register .given .1) in
     c .read-text .ensures (λ t. says (input _ t)) (λ t. refl)
     ∙ ap headOf (sym (ap inputLine fields ∙ input-register _ _ (partsFrom comma (e + 1) (g .s .now)) register))
@@ -66,8 +66,8 @@ returns-2 c =
 returns-3 : tie.Need-returns-3
 returns-3 c =
     let g = c .before .before .before .before .before .before .before .before .args in
-    let e = c .before .before .before .before .before .find .result in
-    let fields = parts-next comma (g .s .now) (g .a) e (c .before .before .before .before .before .before .if1 .left) (c .before .before .before .before .before .find .ensures .0) in
+    let e = c .before .before .before .before .before .find-within .result in
+    let fields = parts-next comma (g .s .now) (g .a) e (c .before .before .before .before .before .before .if1 .left) (c .before .before .before .before .before .find-within .ensures .0) in
     let register = natural-wrong 31 _ (sym (c .before .before .before .read-natural .ensures) ∙ c .before .enum-told .given .1) in
     c .read-text2 .ensures (λ t. faulty Value) (λ t. refl)
     ∙ ap headOf (sym (ap inputLine fields ∙ input-wrong _ (partsFrom comma (e + 1) (g .s .now)) register))
@@ -77,7 +77,7 @@ read-input-spec =
     tie.close
     (tie.spec
     returns
-    find-requires
+    find-within-requires
     sub-read-natural
     part-read-natural-start
     part-read-natural-end

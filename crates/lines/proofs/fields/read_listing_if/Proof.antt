@@ -1,7 +1,5 @@
 -- `read_listing_if` meets its contract: four fields, of which the first three are a test and the last is a skip.
-use Prim.Native.Nat.{_+_, _-_, _≤_}
 use native.Mathlib.Omega.{arith}
-use lib.ListN.{length, take, drop}
 use mathlib.Core.Path.{sym, _∙_}
 use Rattle.text.specs.Parts.{comma, partsFrom}
 use Rattle.decimals.proofs.Answers.{natural-is, natural-wrong}

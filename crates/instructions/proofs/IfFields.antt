@@ -26,7 +26,7 @@ use Rattle.fields.proofs.Ahead.{known-room}
 use Rattle.plate_constants.proofs.Halves.{halves-in}
 use Rattle.plate_texts.proofs.Known.{known-same, known-first, known-then, known-judged}
 use Rattle.instructions.proofs.HeadRead.{skip-read}
-use Rattle.instructions.proofs.PartRead.{part-read}
+use Rattle.fields.proofs.Ahead.{part-read}
 
 -- ---- a number of 32 bits, whose halves are read ahead
 

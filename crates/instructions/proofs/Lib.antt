@@ -2,5 +2,4 @@ pub mod FieldsRead
 pub mod HeadRead
 pub mod Headed
 pub mod Counted
-pub mod PartRead
 pub mod IfFields

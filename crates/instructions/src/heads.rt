@@ -27,7 +27,10 @@ fn long_if(plate: &[u8], at: usize, register: usize, op: Op, high: usize) -> IfR
     ensures { λ r. ⌜ (r .skip ≡ partAhead 16 9 (aheadIn (now (plate .entry)) (at + 29))) × (r .next ≡ at + 54) ⌝ }
 {
     let lower = bits_ahead::read_ahead(plate, at + 29);
-    let constant = signed(high * 65536 + bits_ahead::part_ahead(lower, 0, 16), 2147483648);
+    let constant = signed(
+        high * 65536 + bits_ahead::part_ahead(lower, 0, 16),
+        2147483648,
+    );
     let test = Test {
         register,
         op,

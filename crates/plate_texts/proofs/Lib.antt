@@ -1,6 +1,6 @@
 pub mod Known
 pub mod Ended
-pub mod Behind
+pub mod NumberEnds
 pub mod Spelled
 pub mod SourceRead
 pub mod PhraseRead

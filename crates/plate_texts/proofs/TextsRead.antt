@@ -15,7 +15,7 @@ use Rattle.plate.specs.Reading.{Place, Read, got, stopped, Reader, number, judg
 use Rattle.plate.specs.Plate.{isTextCode, textBy, text, spelled, phrase}
 use Rattle.fields.specs.Places.{placeAt, endWith, Known}
 use Rattle.plate_texts.proofs.Known.{known-same, known-first, known-judged}
-use Rattle.plate_texts.proofs.Behind.{number-part}
+use Rattle.fields.proofs.Ahead.{part-read}
 use Rattle.plate_texts.specs.TextsAt.{codeWith}
 use Rattle.fields.proofs.Ahead.{known-room}
 use Rattle.plate.proofs.Readers.{gives-number, gives-judged}
@@ -58,7 +58,7 @@ module _ (c : Phrases) (plate : List ℕ) (at : ℕ) (w : Known (text c (placeAt
   pub code-ahead : (ahead code : ℕ) → ahead ≡ aheadIn plate at → code ≡ partAhead 0 2 ahead
       → got code (placeAt plate (at + 2)) ≡ judged (number 2) (isTextCode c) Unused (placeAt plate at)
   code-ahead ahead code a e =
-      ap (λ k. got k (placeAt plate (at + 2))) e ∙ number-part plate ahead at 2 a (omega arith) code-known ∙ known-code c plate at w
+      ap (λ k. got k (placeAt plate (at + 2))) e ∙ part-read plate at a 0 2 (omega arith) refl at (at + 2) (omega arith) (omega arith) code-known ∙ known-code c plate at w
 
   -- and its bits are there
   pub code-room : at + 2 ≤ length plate * 8

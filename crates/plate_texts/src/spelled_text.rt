@@ -39,7 +39,7 @@ pub fn is_sized(size: usize) -> bool
 }
 
 // Whether a text of so many characters from a bit on, up to ETX, is no phrase.
-pub fn is_unknown(
+pub fn is_no_phrase(
     plate: &[u8],
     bit: usize,
     size: usize,
@@ -73,7 +73,7 @@ pub fn read_spelled(
         return field;
     };
     if is_sized(size) {
-        if is_unknown(plate, at, size, index, book, own, count) {
+        if is_no_phrase(plate, at, size, index, book, own, count) {
             return Field::Is(size, next);
         }
     }

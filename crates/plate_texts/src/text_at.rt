@@ -1,7 +1,7 @@
 // Texts of a plate that are read first: spelled out, or a phrase; and several, one behind the other.
 use crate::phrase_place::pass_phrase;
+use crate::spelled_text::is_no_phrase;
 use crate::spelled_text::is_sized;
-use crate::spelled_text::is_unknown;
 use causes::Cause;
 use causes::Refusal;
 use fields::Field;
@@ -76,7 +76,7 @@ pub fn pass_text(
         if n == 0 {
             return Field::Is(0, next);
         }
-        if is_unknown(plate, bit, size, index, book, own, count) {
+        if is_no_phrase(plate, bit, size, index, book, own, count) {
             return Field::Is(0, next);
         }
     }

@@ -11,7 +11,7 @@ use Rattle.plate_texts.proofs.Known.{known-same, known-first}
 use Rattle.instructions.specs.Heads.{headed}
 use Rattle.instructions.proofs.FieldsRead.{fields-code, fields-last}
 use Rattle.instructions.proofs.HeadRead.{skip-read, if-same, code-known, by-code}
-use Rattle.instructions.proofs.PartRead.{part-below, part-read}
+use Rattle.fields.proofs.Ahead.{part-below, part-read}
 use borrow.Author.Needs.{needs}
 use Rattle.instructions.proofs.heads.accepted_head.Statement.{statement}
 use Rattle.instructions.proofs.heads.accepted_head.Tie as tie

@@ -3,7 +3,7 @@ use mathlib.Core.Path.{refl, sym, ap, _∙_}
 use native.Mathlib.Omega.{arith}
 use Rattle.plate.specs.Plate.{opOf, signed}
 use Rattle.plate_constants.proofs.SignedRead.{held}
-use Rattle.instructions.proofs.PartRead.{part-below}
+use Rattle.fields.proofs.Ahead.{part-below}
 use Rattle.instructions.proofs.IfFields.{if-short, if-long}
 use borrow.Author.Needs.{needs}
 use Rattle.instructions.proofs.heads.accepted_if.Statement.{statement}

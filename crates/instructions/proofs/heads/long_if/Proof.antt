@@ -5,7 +5,7 @@ use native.Mathlib.Omega.{arith}
 use Rattle.bits.specs.Ahead.{partAhead}
 use Rattle.plate.specs.Plate.{signed}
 use Rattle.plate_constants.proofs.SignedRead.{held}
-use Rattle.instructions.proofs.PartRead.{part-below}
+use Rattle.fields.proofs.Ahead.{part-below}
 use borrow.Author.Needs.{needs}
 use Rattle.instructions.proofs.heads.long_if.Statement.{statement}
 use Rattle.instructions.proofs.heads.long_if.Tie as tie

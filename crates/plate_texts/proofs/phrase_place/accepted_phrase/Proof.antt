@@ -1,9 +1,10 @@
 -- `accepted_phrase` meets its contract: the source, and the place there, which are known to be good.
 use native.Mathlib.Omega.{arith}
-use mathlib.Core.Path.{_∙_}
+use Prim.Native.Nat.{_+_}
+use mathlib.Core.Path.{refl, _∙_}
 use borrow.Author.Needs.{needs}
 use Rattle.fields.proofs.Onward.{then-got}
-use Rattle.plate_texts.proofs.Behind.{bit-part}
+use Rattle.fields.proofs.Ahead.{part-read}
 use Rattle.plate_texts.proofs.SourceRead.{only-own, only-book, both, bit-book, bit-own}
 use Rattle.plate_texts.proofs.PhraseRead.{book-count, bit-known, phrase-accepted}
 use Rattle.plate_texts.proofs.phrase_place.accepted_phrase.Statement.{statement}
@@ -39,7 +40,7 @@ place-ahead-requires-3 c κs = let b = c .before .before .before .before .before
 returns-3 : tie.Need-returns-3
 returns-3 c =
     let b = c .before .before .before .before .before .before .before .before .before .before in
-    let e = bit-book _ _ _ _ (c .before .if3 .taken) ∙ then-got _ _ _ (bit-part _ _ _ _ (b .pre .2) (c .before .before .part-ahead .ensures .0) (bit-known (b .pre .0) (b .args .at) _ (c .before .before .before .before .before .count-of .ensures) (b .pre .4) (c .before .before .before .before .if1 .left) (c .before .before .before .if2 .left))) ∙ both _ _ _ (c .before .before .before .before .if1 .left) (c .before .before .before .if2 .left) in
+    let e = bit-book _ _ _ _ (c .before .if3 .taken) ∙ then-got _ _ _ (part-read _ _ (b .pre .2) 2 1 (omega arith) (c .before .before .part-ahead .ensures .0) (b .args .at + 2) (b .args .at + 3) refl (omega arith) (bit-known (b .pre .0) (b .args .at) _ (c .before .before .before .before .before .count-of .ensures) (b .pre .4) (c .before .before .before .before .if1 .left) (c .before .before .before .if2 .left))) ∙ both _ _ _ (c .before .before .before .before .if1 .left) (c .before .before .before .if2 .left) in
     phrase-accepted (b .pre .0) (b .args .at) _ 3 _ (c .before .before .before .before .before .count-of .ensures) e (b .pre .1) (b .pre .2) (omega arith) (b .pre .4) (c .place-ahead3 .ensures)
 
 place-ahead-requires-4 : tie.Need-place-ahead-requires-4
@@ -48,7 +49,7 @@ place-ahead-requires-4 c κs = let b = c .before .before .before .before .before
 returns-4 : tie.Need-returns-4
 returns-4 c =
     let b = c .before .before .before .before .before .before .before .before .before .before in
-    let e = bit-own _ _ _ _ (c .before .if3 .left) ∙ then-got _ _ _ (bit-part _ _ _ _ (b .pre .2) (c .before .before .part-ahead .ensures .0) (bit-known (b .pre .0) (b .args .at) _ (c .before .before .before .before .before .count-of .ensures) (b .pre .4) (c .before .before .before .before .if1 .left) (c .before .before .before .if2 .left))) ∙ both _ _ _ (c .before .before .before .before .if1 .left) (c .before .before .before .if2 .left) in
+    let e = bit-own _ _ _ _ (c .before .if3 .left) ∙ then-got _ _ _ (part-read _ _ (b .pre .2) 2 1 (omega arith) (c .before .before .part-ahead .ensures .0) (b .args .at + 2) (b .args .at + 3) refl (omega arith) (bit-known (b .pre .0) (b .args .at) _ (c .before .before .before .before .before .count-of .ensures) (b .pre .4) (c .before .before .before .before .if1 .left) (c .before .before .before .if2 .left))) ∙ both _ _ _ (c .before .before .before .before .if1 .left) (c .before .before .before .if2 .left) in
     phrase-accepted (b .pre .0) (b .args .at) _ 3 _ (c .before .before .before .before .before .count-of .ensures) e (b .pre .1) (b .pre .2) (omega arith) (b .pre .4) (c .place-ahead4 .ensures)
 
 pub accepted-phrase-spec : {M : Type 1} → statement M

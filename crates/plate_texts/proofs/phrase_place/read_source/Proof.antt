@@ -7,7 +7,7 @@ use Rattle.fields.specs.Places.{placeAt}
 use Rattle.fields.proofs.Onward.{then-got, then-stopped}
 use Rattle.fields.proofs.Answers.{field-got, field-stopped}
 use Rattle.plate_texts.specs.Sources.{sourceBy, source}
-use Rattle.plate_texts.proofs.Behind.{bit-read}
+use Rattle.plate_texts.proofs.NumberEnds.{bit-read}
 use Rattle.plate_texts.proofs.SourceRead.{only-own, only-book, both, bit-book, bit-own}
 use Rattle.plate_texts.proofs.phrase_place.read_source.Statement.{statement}
 use Rattle.plate_texts.proofs.phrase_place.read_source.Tie as tie

@@ -27,8 +27,8 @@ returns c = size-kept _ _ _ _ _ (c .enum-told .given .1) untilETX (c .before .be
 is-sized-requires : tie.Need-is-sized-requires
 is-sized-requires c κs = search needs
 
-is-unknown-requires : tie.Need-is-unknown-requires
-is-unknown-requires c κs =
+is-no-phrase-requires : tie.Need-is-no-phrase-requires
+is-no-phrase-requires c κs =
     let e = size-got _ _ _ (c .before .before .before .before .before .last-size .ensures) (c .before .before .before .field .given .1) in
     let b = c .before .before .before .before .before .before .before .before .before .before in
     (b .pre .0, b .pre .1, b .pre .2, got-known e, sym (length-characters _ _) ∙ ap (λ m. length (valuesOf m)) e, sized-few (b .args .plate .now) (b .args .at) _ _ (c .before .is-sized .ensures) (c .if1 .taken))
@@ -36,10 +36,10 @@ is-unknown-requires c κs =
 returns-2 : tie.Need-returns-2
 returns-2 c =
     spelled-got _ _ _ _ (c .before .before .before .is-sized .ensures) _ _ (size-got _ _ _ (c .before .before .before .before .before .before .before .last-size .ensures) (c .before .before .before .before .before .field .given .1))
-    (c .before .before .if1 .taken) (sym (c .before .is-unknown .ensures) ∙ c .if2 .taken)
+    (c .before .before .if1 .taken) (sym (c .before .is-no-phrase .ensures) ∙ c .if2 .taken)
 
 returns-3 : tie.Need-returns-3
-returns-3 c = spelled-phrase _ _ _ _ (size-got _ _ _ (c .before .before .before .before .before .before .before .last-size .ensures) (c .before .before .before .before .before .field .given .1)) (sym (c .before .is-unknown .ensures) ∙ c .if2 .left)
+returns-3 c = spelled-phrase _ _ _ _ (size-got _ _ _ (c .before .before .before .before .before .before .before .last-size .ensures) (c .before .before .before .before .before .field .given .1)) (sym (c .before .is-no-phrase .ensures) ∙ c .if2 .left)
 
 returns-4 : tie.Need-returns-4
 returns-4 c = spelled-sized _ _ _ _ (c .before .is-sized .ensures) _ _ (size-got _ _ _ (c .before .before .before .before .before .last-size .ensures) (c .before .before .before .field .given .1)) (c .if1 .left)
@@ -53,7 +53,7 @@ read-spelled-spec =
     enum-told
     returns
     is-sized-requires
-    is-unknown-requires
+    is-no-phrase-requires
     returns-2
     returns-3
     returns-4)

@@ -14,7 +14,7 @@ use Rattle.fields.proofs.Onward.{then-got, then-stopped, judged-stopped}
 use Rattle.fields.proofs.Answers.{answered, field-got, field-refused, size-got}
 use Rattle.fields.proofs.Copies.{length-characters}
 use Rattle.plate_characters.proofs.TextCopy.{got-known}
-use Rattle.plate_texts.proofs.Behind.{judged-behind, judged-room}
+use Rattle.plate_texts.proofs.NumberEnds.{judged-behind, judged-room}
 use Rattle.plate_texts.proofs.PhraseRead.{book-count}
 use Rattle.plate_texts.proofs.Spelled.{sized-few, none-there, spelled-got, spelled-sized, spelled-phrase}
 use Rattle.plate_texts.proofs.TextsRead.{text-code, some-phrase, by-spelled, by-phrase}
@@ -106,8 +106,8 @@ returns-4 c =
     ap (endWith 0) (spelled-got _ _ _ _ (c .before .before .is-sized .ensures) _ _ (size-got _ _ _ (c .before .before .before .before .before .before .read-size .ensures) (c .before .before .before .before .characters .given .1))
     (c .before .if2 .taken) none ∙ spelled-there (c .before .before .before .before .before .before .before))
 
-is-unknown-requires : tie.Need-is-unknown-requires
-is-unknown-requires c κs =
+is-no-phrase-requires : tie.Need-is-no-phrase-requires
+is-no-phrase-requires c κs =
     let b = c .before .before .before .before .before .before .before .before .before .before .before .before .before .before .before .before .before .before in
     let e = size-got _ _ _ (c .before .before .before .before .before .before .read-size .ensures) (c .before .before .before .before .characters .given .1) in
     (b .pre .short, b .pre .listed .indexed, b .pre .listed .numbers, got-known e, sym (length-characters _ _) ∙ ap (λ m. length (valuesOf m)) e, sized-few (b .args .plate .now) (b .args .at) _ _ (c .before .before .is-sized .ensures) (c .before .if2 .taken))
@@ -115,12 +115,12 @@ is-unknown-requires c κs =
 returns-5 : tie.Need-returns-5
 returns-5 c =
     ap (endWith 0) (spelled-got _ _ _ _ (c .before .before .before .before .is-sized .ensures) _ _ (size-got _ _ _ (c .before .before .before .before .before .before .before .before .read-size .ensures) (c .before .before .before .before .before .before .characters .given .1))
-    (c .before .before .before .if2 .taken) (sym (c .before .is-unknown .ensures) ∙ c .if4 .taken) ∙ spelled-there (c .before .before .before .before .before .before .before .before .before))
+    (c .before .before .before .if2 .taken) (sym (c .before .is-no-phrase .ensures) ∙ c .if4 .taken) ∙ spelled-there (c .before .before .before .before .before .before .before .before .before))
 
 returns-6 : tie.Need-returns-6
 returns-6 c =
     ap (endWith 0) (spelled-phrase _ _ _ _ (size-got _ _ _ (c .before .before .before .before .before .before .before .before .read-size .ensures) (c .before .before .before .before .before .before .characters .given .1))
-    (sym (c .before .is-unknown .ensures) ∙ c .if4 .left) ∙ spelled-there (c .before .before .before .before .before .before .before .before .before))
+    (sym (c .before .is-no-phrase .ensures) ∙ c .if4 .left) ∙ spelled-there (c .before .before .before .before .before .before .before .before .before))
 
 returns-7 : tie.Need-returns-7
 returns-7 c =
@@ -146,7 +146,7 @@ pass-text-spec =
     returns-3
     is-sized-requires
     returns-4
-    is-unknown-requires
+    is-no-phrase-requires
     returns-5
     returns-6
     returns-7)

@@ -1,11 +1,11 @@
--- `is_unknown` meets its contract: the lookup of the copied characters.
+-- `is_no_phrase` meets its contract: the lookup of the copied characters.
 use mathlib.Core.Path.{sym, ap, _∙_}
 use native.Mathlib.Omega.{arith}
 use lib.ListN.{length}
 use borrow.Author.Needs.{needs}
 use Rattle.fields.proofs.Copies.{copied-text}
-use Rattle.plate_texts.proofs.spelled_text.is_unknown.Statement.{statement}
-use Rattle.plate_texts.proofs.spelled_text.is_unknown.Tie as tie
+use Rattle.plate_texts.proofs.spelled_text.is_no_phrase.Statement.{statement}
+use Rattle.plate_texts.proofs.spelled_text.is_no_phrase.Tie as tie
 
 slice-aggregate-copy-each : tie.Need-slice-aggregate-copy-each
 slice-aggregate-copy-each c = search needs
@@ -29,8 +29,8 @@ returns c = let a = c .before .before .before .before .before .before .before .b
     let t = copied-text (a .args .size) _ _ _ _ (a .pre .4) (omega arith) (c .before .before .before .copy-each .ensures .0) in
     rw t at (c .is-new .ensures)
 
-pub is-unknown-spec : {M : Type 1} → statement M
-is-unknown-spec =
+pub is-no-phrase-spec : {M : Type 1} → statement M
+is-no-phrase-spec =
     tie.close
     (tie.spec
     slice-aggregate-copy-each

@@ -34,7 +34,7 @@ pub fn cause_of(
     ensures { λ r. ⌜ r ≡ faultAnswer (check.causeOf (bookTexts (now (book .entry))) (seenWith (now (text .entry)) s (now (opens .entry))) (lineWith (phraseText (now (line .entry))) head)) ⌝ }
 {
     match head {
-        Head::Phrase => phrase_fault(index, book, text, text::part(line, b',', 1), s),
+        Head::Phrase => phrase_fault(index, book, text, text_parts::part(line, b',', 1), s),
         Head::If { test: _ } => if_fault(s),
         Head::Else => else_fault(s, opens),
         Head::Fi => fi_fault(s),

@@ -46,7 +46,7 @@ fn value(b: u8) -> u8
 fn unlabelled(line: &[u8]) -> &[u8]
     ensures { λ r. ⌜ now r ≡ unlabelled (now (line .entry)) ⌝ }
 {
-    if text::same(front(line, 6), b"plate,") {
+    if text_parts::same(front(line, 6), b"plate,") {
         return &line[6..];
     }
     line

@@ -43,7 +43,7 @@ pub fn count_fields(s: &[u8], a: usize) -> usize
     if s.len() < a {
         0
     } else {
-        text::count_parts(&s[a..], b',')
+        text_parts::count_parts(&s[a..], b',')
     }
 }
 
@@ -54,7 +54,7 @@ pub fn read_text(s: &[u8], a: usize, head: Head) -> Head
     if s.len() < a {
         return Head::Faulty { cause: Cause::Kind };
     }
-    if text::is_text(&s[a..]) {
+    if text_bytes::is_text(&s[a..]) {
         return head;
     }
     if text::find(s, a, b',') < s.len() {
@@ -107,7 +107,7 @@ pub fn read_inputs(s: &[u8], a: usize) -> Head
             cause: Cause::Value,
         };
     };
-    if text::are_texts(&s[a..], 1) {
+    if text_bytes::are_texts(&s[a..], 1) {
         return Head::Inputs {
             register: register as usize,
             options: n - 2,

@@ -34,7 +34,7 @@ pub fn read_line(form: Form, s: &[u8]) -> Head
 fn faulty_line(s: &[u8], head: Head) -> Head
     ensures { λ r. ⌜ r ≡ cond (all allowed (now (s .entry))) head (Head.Faulty Cause.Byte) ⌝ }
 {
-    if text::are_allowed(s) {
+    if text_bytes::are_allowed(s) {
         return head;
     }
     Head::Faulty { cause: Cause::Byte }

@@ -44,10 +44,10 @@ fn kind_of_two(word: &[u8]) -> Kind
     requires { ⌜ length (now word) ≡ 2 ⌝ }
     ensures { λ r. ⌜ r ≡ kindOf (now (word .entry)) ⌝ }
 {
-    if text::same(word, b"if") {
+    if text_parts::same(word, b"if") {
         return Kind::If;
     }
-    if text::same(word, b"fi") {
+    if text_parts::same(word, b"fi") {
         return Kind::Fi;
     }
     Kind::Unknown
@@ -58,10 +58,10 @@ fn kind_of_four(word: &[u8]) -> Kind
     requires { ⌜ length (now word) ≡ 4 ⌝ }
     ensures { λ r. ⌜ r ≡ kindOf (now (word .entry)) ⌝ }
 {
-    if text::same(word, b"else") {
+    if text_parts::same(word, b"else") {
         return Kind::Else;
     }
-    if text::same(word, b"goto") {
+    if text_parts::same(word, b"goto") {
         return Kind::Goto;
     }
     Kind::Unknown
@@ -72,10 +72,10 @@ fn kind_of_five(word: &[u8]) -> Kind
     requires { ⌜ length (now word) ≡ 5 ⌝ }
     ensures { λ r. ⌜ r ≡ kindOf (now (word .entry)) ⌝ }
 {
-    if text::same(word, b"input") {
+    if text_parts::same(word, b"input") {
         return Kind::Input;
     }
-    if text::same(word, b"print") {
+    if text_parts::same(word, b"print") {
         return Kind::Print;
     }
     Kind::Unknown
@@ -86,10 +86,10 @@ fn kind_of_six(word: &[u8]) -> Kind
     requires { ⌜ length (now word) ≡ 6 ⌝ }
     ensures { λ r. ⌜ r ≡ kindOf (now (word .entry)) ⌝ }
 {
-    if text::same(word, b"phrase") {
+    if text_parts::same(word, b"phrase") {
         return Kind::Phrase;
     }
-    if text::same(word, b"inputs") {
+    if text_parts::same(word, b"inputs") {
         return Kind::Inputs;
     }
     Kind::Unknown
@@ -100,7 +100,7 @@ fn kind_of_seven(word: &[u8]) -> Kind
     requires { ⌜ length (now word) ≡ 7 ⌝ }
     ensures { λ r. ⌜ r ≡ kindOf (now (word .entry)) ⌝ }
 {
-    if text::same(word, b"printex") {
+    if text_parts::same(word, b"printex") {
         return Kind::Printex;
     }
     Kind::Unknown
@@ -110,22 +110,22 @@ fn kind_of_seven(word: &[u8]) -> Kind
 pub fn read_operator(word: &[u8]) -> Operator
     ensures { λ r. ⌜ r ≡ operatorAnswer (operator (now (word .entry))) ⌝ }
 {
-    if text::same(word, b"eq") {
+    if text_parts::same(word, b"eq") {
         return Operator::Is(Op::Eq);
     }
-    if text::same(word, b"ne") {
+    if text_parts::same(word, b"ne") {
         return Operator::Is(Op::Ne);
     }
-    if text::same(word, b"lt") {
+    if text_parts::same(word, b"lt") {
         return Operator::Is(Op::Lt);
     }
-    if text::same(word, b"le") {
+    if text_parts::same(word, b"le") {
         return Operator::Is(Op::Le);
     }
-    if text::same(word, b"gt") {
+    if text_parts::same(word, b"gt") {
         return Operator::Is(Op::Gt);
     }
-    if text::same(word, b"ge") {
+    if text_parts::same(word, b"ge") {
         return Operator::Is(Op::Ge);
     }
     Operator::Wrong

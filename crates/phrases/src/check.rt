@@ -23,7 +23,7 @@ fn is_next(index: &[u32], earlier: &[u8], weight: usize, line: &[u8]) -> bool
     if 256 <= count_of(index) {
         return false;
     }
-    if text::is_text(line) {
+    if text_bytes::is_text(line) {
         match find_keyed(index, earlier, weight, line) {
             Place::At(_) => false,
             Place::Missing => true,

@@ -58,7 +58,7 @@ fn is_at(index: &[u32], book: &[u8], k: usize, weight: usize, text: &[u8]) -> bo
     if index[129 + k] as usize / 16777216 != weight / 128 % 256 {
         return false;
     }
-    text::same(text, text_of(index, book, k))
+    text_parts::same(text, text_of(index, book, k))
 }
 
 // The place of a text, of this key, among the lines of a book that end in LF: from the last text of its list to the one before, and so on.

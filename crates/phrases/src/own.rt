@@ -47,7 +47,7 @@ fn is_own_at(index: &[u32], book: &[u8], own: &[u8], k: usize, weight: usize, te
     if number_of(index, k) / 4096 != weight % 8192 * 128 + text.len() {
         return false;
     }
-    text::same(text, own_at(index, book, own, k))
+    text_parts::same(text, own_at(index, book, own, k))
 }
 
 // The place of a text, of this key, among the first `count` own phrases.

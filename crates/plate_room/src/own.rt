@@ -23,7 +23,7 @@ fn put_phrases(out: &mut [u8], at: usize, own: &[u8], count: usize) -> usize
             return end;
         }
         let e = text::find(own, a, b'\n');
-        end = put_spelled(out, end, text::part(&own[a..e], b',', 1));
+        end = put_spelled(out, end, text_parts::part(&own[a..e], b',', 1));
         a = e + 1;
         n += 1;
     }

@@ -35,7 +35,7 @@ pub fn put_phrases(own: &[u8], count: usize, out: &mut [u8], at: usize) -> usize
             return end;
         }
         let e = text::find(own, a, b'\n');
-        end = phrase_at(text::part(&own[a..e], b',', 1), out, end);
+        end = phrase_at(text_parts::part(&own[a..e], b',', 1), out, end);
         a = e + 1;
         n += 1;
     }

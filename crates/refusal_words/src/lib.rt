@@ -92,7 +92,7 @@ fn put_cause(out: &mut [u8], at: usize, cause: Cause) -> usize
         character not allowed, text of 0 or over 64, phrase spelled out or repeated, or 32 bits for a 16-bit constant\n\
         a one among the filling bits, or a whole spare byte";
     let number = causes::number_of(cause) as usize;
-    put(out, at, text::part(table, b'\n', number))
+    put(out, at, text_parts::part(table, b'\n', number))
 }
 
 // The line of words for a refusal.

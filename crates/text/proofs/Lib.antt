@@ -5,5 +5,4 @@ pub mod Bytes
 pub mod Sizes
 pub mod Places
 pub mod Searches
-pub mod Counts
 pub mod Flags

@@ -175,7 +175,7 @@ pub fn put_texts(
     ensures { λ r. ⌜ (r, bytesBits (now (out .exit))) ≡ poured at (textsBits (phrasesIn (now (book .entry)) (now (own .entry)) count) (drop k (split comma (now (line .entry))))) (bytesBits (now (out .entry))) ⌝ }
 {
     let mut end = at;
-    let mut a = text::part_start(line, b',', k);
+    let mut a = text_parts::part_start(line, b',', k);
     while a <= line.len() {
         let e = text::find(line, a, b',');
         end = put_text(out, end, 0, 0, &line[a..e], index, book, own, count);

@@ -29,7 +29,7 @@ fn read_open(fd: i32, name: &[u8], space: &mut [u8]) -> Input
 fn read_named(name: &[u8], space: &mut [u8]) -> Input
     ensures { λ r. ⌜ Within r (now (space .exit)) ⌝ }
 {
-    if text::same(name, b"-") {
+    if text_parts::same(name, b"-") {
         return read_open(STDIN_FILENO, name, space);
     }
     let fd = os::open_read(name);

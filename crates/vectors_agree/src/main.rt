@@ -47,7 +47,7 @@ fn same_answer(a: Ran, b: Ran) -> bool {
 // The walk's line where the run gave the same. This and the function below fill the line, and answer where it ends.
 fn compare(line: &mut [u8], walked: Ran, transcript: &[u8], ran: Ran, other: &[u8]) -> usize {
     if same_answer(walked, ran) {
-        if text::same(transcript, other) {
+        if text_parts::same(transcript, other) {
             return vectors_lines::put_ran(line, 0, walked, transcript);
         }
     }

@@ -23,7 +23,7 @@ fn enter_at(index: &mut [u32], own: &[u8], k: usize, start: usize, text: &[u8]) 
     if own.len() < end {
         return false;
     }
-    if text::same(&own[start..end], text) {
+    if text_parts::same(&own[start..end], text) {
         phrases::enter_own(index, k, start, text);
         return true;
     }
@@ -58,7 +58,7 @@ pub fn enter_lines(index: &mut [u32], book: &[u8], own: &[u8], count: usize) -> 
         }
         let e = text::find(own, a, b'\n');
         let line = &own[a..e];
-        let text = text::part(line, b',', 1);
+        let text = text_parts::part(line, b',', 1);
         if enter_at(index, own, k, second(own, a, e), text) {
             k += 1;
             a = e + 1;

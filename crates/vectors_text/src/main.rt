@@ -1,4 +1,4 @@
-// Tries the crate text on the cases of its standard input: texts, parts of a text, and decimal numbers read and written.
+// Tries the crates of texts and numbers on the cases of its standard input: texts, parts of a text, and decimal numbers read and written.
 // Writes a line for each case; model/README.md has the format.
 use decimals::Constant;
 use decimals::Natural;
@@ -20,9 +20,9 @@ fn put_yes(line: &mut [u8], yes: bool) -> usize {
 // Whether the bytes are allowed, and whether they are a text.
 fn read_text(line: &mut [u8], s: &[u8], at: usize) -> usize {
     let bytes = vectors::slice(s, at);
-    let end = text_out::put_byte(line, 0, letter(text::are_allowed(bytes)));
+    let end = text_out::put_byte(line, 0, letter(text_bytes::are_allowed(bytes)));
     let end = text_out::put_byte(line, end, b',');
-    let end = text_out::put_byte(line, end, letter(text::is_text(bytes)));
+    let end = text_out::put_byte(line, end, letter(text_bytes::is_text(bytes)));
     text_out::put_byte(line, end, b'\n')
 }
 
@@ -37,17 +37,17 @@ fn each_part(line: &mut [u8], at: usize, bytes: &[u8], by: u8, count: usize) -> 
     let mut end = at;
     let mut k = 0;
     while k < count {
-        end = put_part(line, end, text::part(bytes, by, k));
+        end = put_part(line, end, text_parts::part(bytes, by, k));
         k += 1;
     }
-    put_part(line, end, text::part(bytes, by, count))
+    put_part(line, end, text_parts::part(bytes, by, count))
 }
 
 // How many parts there are, and the parts.
 fn read_parts(line: &mut [u8], s: &[u8], at: usize) -> usize {
     let by = vectors::byte(s, at);
     let bytes = vectors::slice(s, vectors::past(at, 4));
-    let count = text::count_parts(bytes, by);
+    let count = text_parts::count_parts(bytes, by);
     let end = text_out::put_natural(line, 0, count);
     let end = each_part(line, end, bytes, by, count);
     text_out::put_byte(line, end, b'\n')
@@ -57,7 +57,7 @@ fn read_parts(line: &mut [u8], s: &[u8], at: usize) -> usize {
 fn read_texts(line: &mut [u8], s: &[u8], at: usize) -> usize {
     let from = vectors::long_number(s, at);
     let bytes = vectors::slice(s, vectors::past(at, 8));
-    put_yes(line, text::are_texts(bytes, from))
+    put_yes(line, text_bytes::are_texts(bytes, from))
 }
 
 // A number up to a limit.
@@ -85,7 +85,7 @@ fn read_constant(line: &mut [u8], s: &[u8], at: usize) -> usize {
 fn read_same(line: &mut [u8], s: &[u8], at: usize) -> usize {
     let one = vectors::slice(s, at);
     let other = vectors::slice(s, vectors::past_slice(s, at));
-    put_yes(line, text::same(one, other))
+    put_yes(line, text_parts::same(one, other))
 }
 
 // The first place of a byte from a place on, which is at most the length.

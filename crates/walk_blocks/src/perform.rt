@@ -28,7 +28,7 @@ fn offer(
     ensures { λ r. ⌜ performed (now (registers .exit)) (now (answers .entry)) r (now (out .exit)) ≡ laid at (statement.perform (inputs register (getD (split comma (now (line .entry))) 2 []) (drop 3 (split comma (now (line .entry))))) (machineState (now (registers .entry)) (now (answers .entry)) m)) (now (out .entry)) ⌝ }
     ensures { λ r. ⌜ r .machine .steps ≡ m .steps + 1 ⌝ }
 {
-    let a = text::part_start(line, b',', 2);
+    let a = text_parts::part_start(line, b',', 2);
     let end = transcript_lines::put_offer(out, at, &line[a..]);
     let end = transcript_lines::put_end(out, end);
     statements::choose(out, end, registers, register, options, answers, m)

@@ -67,7 +67,7 @@ pub fn put_inputs(
     ensures { λ r. ⌜ (r, bytesBits (now (out .exit))) ≡ poured at (statementBits (phrasesIn (now (book .entry)) (now (own .entry)) count) (inputs register (getD (split comma (now (line .entry))) 2 []) (drop 3 (split comma (now (line .entry)))))) (bytesBits (now (out .entry))) ⌝ }
 {
     let front = 32 + register % 32;
-    let question = text::part(line, b',', 2);
+    let question = text_parts::part(line, b',', 2);
     let mut end = put_text(out, at, 8, front, question, index, book, own, count);
     end = bits_out::put_bits(out, end, 3, options - 2);
     put_texts(out, end, line, 3, index, book, own, count)

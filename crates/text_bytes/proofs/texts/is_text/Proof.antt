@@ -1,0 +1,21 @@
+-- `is_text` meets its contract: bytes of a text's size are a text where every byte is one of a text.
+use mathlib.Core.Path.{sym, _∙_}
+use borrow.Author.Needs.{needs}
+use Rattle.text.proofs.Bytes.{text-none, text-long, text-sized}
+use Rattle.text_bytes.proofs.texts.is_text.Statement.{statement}
+use Rattle.text_bytes.proofs.texts.is_text.Tie as tie
+
+returns : tie.Need-returns
+returns c = sym (text-none _ (c .if1 .taken))
+
+returns-2 : tie.Need-returns-2
+returns-2 c = sym (text-long _ (c .if2 .taken))
+
+are-text-bytes-requires : tie.Need-are-text-bytes-requires
+are-text-bytes-requires c κs = search needs
+
+returns-3 : tie.Need-returns-3
+returns-3 c = c .are-text-bytes .ensures ∙ sym (text-sized _ (c .before .before .if1 .left) (c .before .if2 .left))
+
+pub is-text-spec : {M : Type 1} → statement M
+is-text-spec = tie.close (tie.spec returns returns-2 are-text-bytes-requires returns-3)

@@ -1,0 +1,105 @@
+// Allowed bytes and texts.
+ghost use mathlib.Core.Path.{_≡_};
+ghost use lib.ListN.{drop};
+ghost use Rattle.text.specs.Parts.{all, split, comma};
+ghost use Rattle.text.specs.Text.{allowed, textByte, isText};
+use text::find;
+use text_parts::part_start;
+
+// Whether a byte is allowed.
+fn is_allowed(b: u8) -> bool
+    ensures { λ r. ⌜ r ≡ allowed b ⌝ }
+{
+    if b < 32 {
+        return false;
+    }
+    if 126 < b {
+        return false;
+    }
+    true
+}
+
+// Whether every byte is allowed. The loop does not stop at a byte that is not, so that it can take many at a time.
+pub fn are_allowed(s: &[u8]) -> bool
+    ensures { λ r. ⌜ r ≡ all allowed (now (s .entry)) ⌝ }
+{
+    let mut good = true;
+    let mut i = 0;
+    while i < s.len() {
+        if !is_allowed(s[i]) {
+            good = false;
+        }
+        i += 1;
+    }
+    good
+}
+
+// Whether a byte is one of a text: allowed, and no comma.
+fn is_text_byte(b: u8) -> bool
+    ensures { λ r. ⌜ r ≡ textByte b ⌝ }
+{
+    if b == b',' {
+        return false;
+    }
+    is_allowed(b)
+}
+
+// Whether every byte of a part is one of a text. The loop does not stop at a byte that is not, so that it can take many at a time.
+fn is_text_part(s: &[u8]) -> bool
+    ensures { λ r. ⌜ r ≡ all textByte (now (s .entry)) ⌝ }
+{
+    let mut good = true;
+    let mut i = 0;
+    while i < s.len() {
+        if !is_text_byte(s[i]) {
+            good = false;
+        }
+        i += 1;
+    }
+    good
+}
+
+// Whether every byte is one of a text: 16 at a time, and then the last ones.
+fn are_text_bytes(s: &[u8]) -> bool
+    ensures { λ r. ⌜ r ≡ all textByte (now (s .entry)) ⌝ }
+{
+    let mut a = 0;
+    while 16 <= s.len() - a {
+        let e = a + 16;
+        if is_text_part(&s[a..e]) {
+            a = e;
+        } else {
+            return false;
+        }
+    }
+    is_text_part(&s[a..])
+}
+
+// Whether the bytes are a text: 1 to 64 allowed bytes with no comma.
+pub fn is_text(s: &[u8]) -> bool
+    ensures { λ r. ⌜ r ≡ isText (now (s .entry)) ⌝ }
+{
+    if s.len() == 0 {
+        return false;
+    }
+    if 64 < s.len() {
+        return false;
+    }
+    are_text_bytes(s)
+}
+
+// Whether every field from field k on is a text.
+pub fn are_texts(s: &[u8], k: usize) -> bool
+    ensures { λ r. ⌜ r ≡ all isText (drop k (split comma (now (s .entry)))) ⌝ }
+{
+    let mut a = part_start(s, b',', k);
+    while a <= s.len() {
+        let e = find(s, a, b',');
+        if is_text(&s[a..e]) {
+            a = e + 1;
+        } else {
+            return false;
+        }
+    }
+    true
+}

@@ -54,7 +54,7 @@ fn phrase_fault(index: &[u32], book: &[u8], text: &[u8], phrase: &[u8], s: Seen)
     if 32 <= s.own {
         return Fault::Is(Cause::Phrase);
     }
-    match phrases::find_phrase(index, book, text, s.own, phrase) {
+    match phrase_lookup::find_phrase(index, book, text, s.own, phrase) {
         Found::InBook(_) => Fault::Is(Cause::Phrase),
         Found::InOwn(_) => Fault::Is(Cause::Phrase),
         Found::Nowhere => Fault::Absent,

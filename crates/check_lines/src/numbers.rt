@@ -11,6 +11,6 @@ pub fn enter_phrase(index: &mut [u32], text: &[u8], head: Head, k: usize, a: usi
 {
     if let Head::Phrase = head {
         let start = a + 7;
-        phrases::enter_own(index, k, start, &text[start..e]);
+        phrase_lookup::enter_own(index, k, start, &text[start..e]);
     }
 }

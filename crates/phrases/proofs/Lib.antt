@@ -4,13 +4,12 @@ pub mod Width
 pub mod BookValid
 pub mod BookLines
 pub mod FirstLines
-pub mod Checked
 pub mod Texts
 pub mod Answers
 mod Heads
-mod Keys
+pub mod Keys
 pub mod Entries
-mod Entered
+pub mod Entered
 pub mod CheckedBooks
 mod Weights
 pub mod OwnEntries

@@ -35,7 +35,7 @@ fn copy_phrase<'a>(
     ensures { λ r. ⌜ got 0 (placeAt (now (plate .entry)) (r .next)) ≡ endWith 0 (phrase (bookTexts (now (book .entry))) (ownTexts count (now (own .entry))) (placeAt (now (plate .entry)) (at + 2))) ⌝ }
 {
     let phrase = accepted_phrase(plate, ahead, at, index, book, own, count);
-    let text = phrases::phrase_text(index, book, own, phrase.own, phrase.place);
+    let text = phrase_lookup::phrase_text(index, book, own, phrase.own, phrase.place);
     let end = text_out::put(out, from, text);
     Copied {
         end,

@@ -21,7 +21,7 @@ fn is_new(index: &[u32], book: &[u8], own: &[u8], count: usize, text: &[u8]) -> 
     requires { ⌜ Indexed (now index) (now book) × OwnNumbers (now index) (now book) (now own) count ⌝ }
     ensures { λ r. ⌜ r ≡ isNew (bookTexts (now (book .entry))) (ownTexts count (now (own .entry))) (now (text .entry)) ⌝ }
 {
-    match phrases::find_phrase(index, book, own, count, text) {
+    match phrase_lookup::find_phrase(index, book, own, count, text) {
         Found::InBook(_) => false,
         Found::InOwn(_) => false,
         Found::Nowhere => true,

@@ -60,7 +60,7 @@ pub fn read_plate(plate: &[u8], book: &[u8], listing: &mut [u8]) -> Written
         return read_with(plate, &mut index, book, listing);
     }
     let mut index = [0u32; 417];
-    match phrases::check_book(book, &mut index) {
+    match phrase_check::check_book(book, &mut index) {
         Book::Bad(line) => Written::Refused(Refusal {
             cause: Cause::Book,
             place: line,

@@ -80,7 +80,7 @@ fn read_phrases(
         };
         let start = end + 7;
         end = put_phrase(plate, bit, own, end);
-        phrases::enter_own(index, k, start, &own[start..end - 1]);
+        phrase_lookup::enter_own(index, k, start, &own[start..end - 1]);
         bit = next;
         k += 1;
     }

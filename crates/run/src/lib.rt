@@ -87,7 +87,7 @@ pub fn run(
         return run_with(plate, &mut index, book, answers, scratch, transcript);
     }
     let mut index = [0u32; 417];
-    match phrases::check_book(book, &mut index) {
+    match phrase_check::check_book(book, &mut index) {
         Book::Bad(line) => Ran::Refused(Refusal {
             cause: Cause::Book,
             place: line,

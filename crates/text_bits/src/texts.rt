@@ -147,7 +147,7 @@ pub fn put_text(
     requires { ⌜ (length (now out) ≤ 2953) × (width ≤ 8) × (front < 256) × Listed (now index) (now book) (now own) count ⌝ }
     ensures { λ r. ⌜ (r, bytesBits (now (out .exit))) ≡ poured at (bitsOf width front ++ textBits (phrasesIn (now (book .entry)) (now (own .entry)) count) (now (text .entry))) (bytesBits (now (out .entry))) ⌝ }
 {
-    match phrases::find_phrase(index, book, own, count, text) {
+    match phrase_lookup::find_phrase(index, book, own, count, text) {
         Found::InBook(i) => {
             let places = phrases::width_of(phrases::count_of(index));
             put_place(out, at, width, front, 0, places, i, index, book, own, count)

@@ -41,7 +41,7 @@ pub fn translate(guide: &[u8], book: &[u8], plate: &mut [u8]) -> Written
         return translate_with(guide, &mut index, book, plate);
     }
     let mut index = [0u32; 417];
-    match phrases::check_book(book, &mut index) {
+    match phrase_check::check_book(book, &mut index) {
         Book::Bad(line) => Written::Refused(Refusal {
             cause: Cause::Book,
             place: line,

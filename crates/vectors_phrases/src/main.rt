@@ -1,4 +1,4 @@
-// Tries the crate phrases on the cases of its standard input: the check of a book, a text's place among the phrases, the text of a
+// Tries the crates of phrases on the cases of its standard input: the check of a book, a text's place among the phrases, the text of a
 // phrase, and the width of a place. Writes a line for each case; model/README.md has the format. A lookup in a
 // bad book is answered with the book's first bad line. The numbers of the own phrases are entered before a lookup.
 ghost use Rattle.phrases.specs.Index.{Indexed};
@@ -11,9 +11,9 @@ mod own;
 use crate::own::enter_lines;
 use libc::STDIN_FILENO;
 use libc::STDOUT_FILENO;
+use phrase_lookup::phrase_text;
 use phrases::Book;
 use phrases::Found;
-use phrases::phrase_text;
 use printed::front;
 use printed::put_labelled;
 use printed::put_pairs;
@@ -21,7 +21,7 @@ use printed::put_pairs;
 // The check of a book. This and the functions below fill the line, and answer where it ends, without LF.
 fn check(line: &mut [u8], s: &[u8], at: usize) -> usize {
     let mut index = [0u32; 449];
-    match phrases::check_book(vectors::slice(s, at), &mut index) {
+    match phrase_check::check_book(vectors::slice(s, at), &mut index) {
         Book::Holds(count) => put_labelled(line, 0, b"Y,", count),
         Book::Bad(bad) => put_labelled(line, 0, b"N,", bad),
     }
@@ -41,7 +41,7 @@ fn find(line: &mut [u8], s: &[u8], at: usize) -> usize {
     let count = vectors::long_number(s, third);
     let text = vectors::slice(s, vectors::past(third, 8));
     let book = vectors::slice(s, at);
-    match phrases::check_book(book, &mut index) {
+    match phrase_check::check_book(book, &mut index) {
         Book::Bad(bad) => put_labelled(line, 0, b"N,", bad),
         Book::Holds(_) => found(
             line,
@@ -66,7 +66,7 @@ fn found(
     requires { ⌜ Indexed (now index) (now book) × (449 ≤ length (now index)) ⌝ }
 {
     let n = enter_lines(index, book, own, count);
-    match phrases::find_phrase(index, book, own, n, text) {
+    match phrase_lookup::find_phrase(index, book, own, n, text) {
         Found::InBook(i) => place(line, 0, i),
         Found::InOwn(i) => place(line, 1, i),
         Found::Nowhere => text_out::put_byte(line, 0, b'N'),
@@ -106,7 +106,7 @@ fn text(line: &mut [u8], s: &[u8], at: usize) -> usize {
     let i = vectors::long_number(s, vectors::past(third, 4));
     let book = vectors::slice(s, at);
     let own = vectors::slice(s, second);
-    match phrases::check_book(book, &mut index) {
+    match phrase_check::check_book(book, &mut index) {
         Book::Bad(bad) => put_labelled(line, 0, b"N,", bad),
         Book::Holds(_) => {
             let n = enter_lines(&mut index, book, own, 64);

@@ -24,7 +24,7 @@ fn enter_at(index: &mut [u32], own: &[u8], k: usize, start: usize, text: &[u8]) 
         return false;
     }
     if text_parts::same(&own[start..end], text) {
-        phrases::enter_own(index, k, start, text);
+        phrase_lookup::enter_own(index, k, start, text);
         return true;
     }
     false

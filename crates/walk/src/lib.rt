@@ -20,7 +20,7 @@ pub fn walk(guide: &[u8], book: &[u8], answers: &[i32], transcript: &mut [u8]) -
     ensures { λ r. ⌜ (ranAnswer r, now (transcript .exit)) ≡ walkCall (now (guide .entry)) (now (book .entry)) (now (answers .entry)) (now (transcript .entry)) ⌝ }
 {
     let mut index = [0u32; 417];
-    match phrases::check_book(book, &mut index) {
+    match phrase_check::check_book(book, &mut index) {
         Book::Bad(line) => Ran::Refused(Refusal {
             cause: Cause::Book,
             place: line,

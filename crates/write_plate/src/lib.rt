@@ -42,7 +42,7 @@ pub fn write_plate(listing: &[u8], book: &[u8], plate: &mut [u8]) -> Written
         return write_with(listing, &mut index, book, plate);
     }
     let mut index = [0u32; 417];
-    match phrases::check_book(book, &mut index) {
+    match phrase_check::check_book(book, &mut index) {
         Book::Bad(line) => Written::Refused(Refusal {
             cause: Cause::Book,
             place: line,

@@ -1,0 +1,73 @@
+// The own phrases by their numbers, which stand behind the index of the book.
+ghost use mathlib.Core.Path.{_≡_};
+ghost use Prim.Native.Nat.{_+_, _<_};
+ghost use lib.ListN.{length, getD, set};
+ghost use Rattle.text.specs.Parts.{same};
+ghost use Rattle.phrases.specs.Phrases as phrases;
+ghost use Rattle.phrases.specs.Lookup.{ownTexts, placeAnswer};
+ghost use Rattle.phrases.specs.Index.{key, Indexed};
+ghost use Rattle.phrases.specs.Own.{ownNumber, ownText, OwnAt, OwnNumbers};
+use phrases::Place;
+use phrases::count_of;
+use phrases::key_of;
+
+// Enters the number of own phrase k, whose text starts at a place.
+pub fn enter_own(index: &mut [u32], k: usize, at: usize, text: &[u8])
+    requires { ⌜ (129 + getD (now index) 0 0 + k < length (now index)) × (at < 4096) × (length (now text) < 128) ⌝ }
+    ensures { λ _. ⌜ now (index .exit) ≡ set (now (index .entry)) (129 + getD (now (index .entry)) 0 0 + k) (ownNumber at (now (text .entry))) ⌝ }
+{
+    let place = 129 + count_of(index) + k;
+    index[place] = ((key_of(text) % 8192 * 128 + text.len()) * 4096 + at) as u32;
+}
+
+// The number of own phrase k.
+fn number_of(index: &[u32], k: usize) -> usize
+    requires { ⌜ 129 + getD (now index) 0 0 + k < length (now index) ⌝ }
+    ensures { λ r. ⌜ r ≡ getD (now (index .entry)) (129 + getD (now (index .entry)) 0 0 + k) 0 ⌝ }
+{
+    index[129 + count_of(index) + k] as usize
+}
+
+// Own phrase k, which stands where its number says.
+pub fn own_at<'a, 'b, 'c>(index: &'b [u32], book: &'c [u8], own: &'a [u8], k: usize) -> &'a [u8]
+    requires { ⌜ Indexed (now index) (now book) × OwnAt (now index) (now book) (now own) k ⌝ }
+    ensures { λ r. ⌜ now r ≡ ownText (now (own .entry)) k ⌝ }
+{
+    let number = number_of(index, k);
+    let a = number % 4096;
+    let e = a + number / 4096 % 128;
+    &own[a..e]
+}
+
+// Whether a text, of this key, is own phrase k: the two are compared where the number has the text's key and length.
+fn is_own_at(index: &[u32], book: &[u8], own: &[u8], k: usize, weight: usize, text: &[u8]) -> bool
+    requires { ⌜ Indexed (now index) (now book) × OwnAt (now index) (now book) (now own) k × (weight ≡ key (now text)) ⌝ }
+    ensures { λ r. ⌜ r ≡ same (now (text .entry)) (ownText (now (own .entry)) k) ⌝ }
+{
+    if number_of(index, k) / 4096 != weight % 8192 * 128 + text.len() {
+        return false;
+    }
+    text_parts::same(text, own_at(index, book, own, k))
+}
+
+// The place of a text, of this key, among the first `count` own phrases.
+pub fn find_own(
+    index: &[u32],
+    book: &[u8],
+    own: &[u8],
+    count: usize,
+    weight: usize,
+    text: &[u8],
+) -> Place
+    requires { ⌜ Indexed (now index) (now book) × OwnNumbers (now index) (now book) (now own) count × (weight ≡ key (now text)) ⌝ }
+    ensures { λ r. ⌜ r ≡ placeAnswer (phrases.place (ownTexts count (now (own .entry))) (now (text .entry))) ⌝ }
+{
+    let mut k = 0;
+    while k < count {
+        if is_own_at(index, book, own, k, weight, text) {
+            return Place::At(k);
+        }
+        k += 1;
+    }
+    Place::Missing
+}

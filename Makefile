@@ -1,6 +1,6 @@
 # test: the whole verdict, from nothing. show: the listing and the plate of a guide.
 # library: the C archive and its header, in target/library. example-c: a C program that links it, on the guides of examples/.
-# fuzz: the archive beside the model on N cases of a seed. bench: time, stack and code beside the model. count: instructions, by callgrind.
+# fuzz: the archive beside the model on N cases of a seed. bench: time, growth, stack, bytes of code and, by count, instructions (callgrind).
 # tools: the four tools, in target/bin. tools-test: their stored runs.
 .PHONY: test show library example-c fuzz bench count harness-test tools tools-test
 
@@ -46,6 +46,7 @@ fuzz: $(ARCHIVE)
 bench: $(ARCHIVE)
 	cargo run $(HARNESS) --bin bench
 	size -t $(ARCHIVE)
+	$(MAKE) --no-print-directory count
 
 count: $(ARCHIVE)
 	cargo run $(HARNESS) --bin bench -- --count

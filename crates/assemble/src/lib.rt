@@ -51,7 +51,7 @@ fn produce(
     while a < text.len() {
         let e = text::find(text, a, b'\n');
         let line = &text[a..e];
-        let head = lines::accepted_line(form, line);
+        let head = accepted_lines::accepted_line(form, line);
         let behind = left - count_of(head);
         let skip = skip_of(head, skip_at(skips, instructions - left));
         if behind < skip {

@@ -18,9 +18,9 @@ use crate::seen::Seen;
 use crate::seen::advance;
 use causes::Cause;
 use causes::Refusal;
+use line_reader::read_line;
 use lines::Checked;
 use lines::Form;
-use lines::read_line;
 
 // A guide or listing against this book, of which there is an index: 2 before the lines, then line by line, and 7 at the end. The numbers of
 // its own phrases stand behind the index afterwards.

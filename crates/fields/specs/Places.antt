@@ -68,10 +68,14 @@ abbrev pub sizeRead : List ℕ → ℕ → field.Field → Read Text
 sizeRead plate bit (fields.Is size next) = got (charactersIn size (drop bit (bytesBits plate))) (placeAt plate next)
 sizeRead plate bit (fields.Refused r) = stopped (r .cause) (r .place)
 
+-- what was read, by its size
+abbrev pub measured : {A : Type 0} → (A → ℕ) → Read A → Read ℕ
+measured size (got a q) = got (size a) q
+measured size (stopped cause bit) = stopped cause bit
+
 -- what was read, by the number n alone
 abbrev pub endWith : {A : Type 0} → ℕ → Read A → Read ℕ
-endWith n (got a q) = got n q
-endWith n (stopped cause bit) = stopped cause bit
+endWith n m = measured (λ a. n) m
 
 -- the values that were read, one behind the other
 abbrev pub valuesOf : {A : Type 0} → Read (List A) → List A
@@ -84,5 +88,4 @@ pub record Known {A : Type 0} (m : Read A) : Type 0 where
 
 -- how many values were read, one behind the other
 abbrev pub countRead : {A : Type 0} → Read (List A) → Read ℕ
-countRead (got xs q) = got (length xs) q
-countRead (stopped cause bit) = stopped cause bit
+countRead m = measured length m

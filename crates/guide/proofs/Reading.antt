@@ -14,7 +14,7 @@ use Rattle.lines.specs.declared.Head.{Head}
 use Rattle.lines.specs.declared.Head.the-variants.{Faulty}
 use Rattle.lines.specs.Line.{Line, phrase, says, ifLine, elseLine, fiLine, gotoLine, ifSkipLine, faulty, lineOf, unended, linesIn}
 use Rattle.lines.specs.Answers.{headOf}
-use Rattle.lines.specs.declared.words.Kind.{Kind}
+use Rattle.lines.specs.declared.Kind.{Kind}
 use Rattle.lines.specs.Words.{kindOf}
 use Rattle.lines.specs.Clean.{isClean, Clean}
 use Rattle.lines.proofs.FieldsRead.{ReadAs, as-fault, as-phrase, as-input, as-inputs, as-print, as-printex, as-if, as-else, as-fi, line-read-as}

@@ -10,8 +10,8 @@ use Rattle.lines.specs.declared.Head.the-variants as head
 use Rattle.lines.specs.Line.{Line, phrase, says, ifLine, elseLine, fiLine, gotoLine, ifSkipLine, faulty, lineOf}
 use Rattle.lines.specs.Check.{linesOf}
 use Rattle.lines.specs.Answers.{headOf}
-use Rattle.lines.specs.declared.words.Kind.{Kind}
-use Rattle.lines.specs.declared.words.Kind.the-variants as kind
+use Rattle.lines.specs.declared.Kind.{Kind}
+use Rattle.lines.specs.declared.Kind.the-variants as kind
 use Rattle.lines.specs.Clean.{Clean}
 use Rattle.guide.specs.declared.Role.{Role}
 use Rattle.guide.specs.declared.Role.the-variants.{Statement, If, Else, Fi, Nothing}

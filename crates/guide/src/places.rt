@@ -36,7 +36,7 @@ pub fn line_at(guide: &[u8], a: usize) -> Here
                 next: end,
             };
         }
-        let head = lines::accepted_line(Form::Guide, &guide[start..end]);
+        let head = accepted_lines::accepted_line(Form::Guide, &guide[start..end]);
         let role = role_of(head);
         if in_block(role) {
             return Here {
@@ -56,7 +56,7 @@ fn role_in(line: &[u8]) -> Role
     requires { ⌜ isClean (lineOf aGuide (now line)) ≡ true ⌝ }
     ensures { λ r. ⌜ r ≡ roleOf (lineOf aGuide (now (line .entry))) ⌝ }
 {
-    role_of_kind(lines::accepted_kind(line))
+    role_of_kind(accepted_lines::accepted_kind(line))
 }
 
 // The role of the first line of a block from the place a on.

@@ -1,31 +1,23 @@
 -- The fields of an instruction as the code reads them: the options of inputs, and the fields that a code calls for.
-use Prim.Native.Nat.{ℕ, zero, suc, _+_, _≤_}
+use Prim.Native.Nat.{ℕ, zero, suc, _+_}
 use mathlib.Core.Path.{_≡_, refl, sym, ap, _∙_}
-use mathlib.Core.List.{List}
 use native.Mathlib.Omega.{arith}
+use lib.ListN.{length}
 use lib.Dec.{leb}
 use Rattle.causes.specs.declared.Cause.{Cause}
 use Rattle.causes.specs.declared.Cause.the-variants.{Unused}
 use Rattle.text.specs.Text.{Text}
-use Rattle.transcript.specs.Statement.{print, printex}
+use Rattle.output.specs.Pour.{upTo}
+use Rattle.transcript.specs.Statement.{input, inputs, print, printex}
+use Rattle.transcript.specs.Offered.{optionsBytes}
 use Rattle.phrases.specs.Phrases.{Phrases}
-use Rattle.plate.specs.Reading.{Place, Read, got, stopped, number, judged, many}
-use Rattle.plate.specs.Program.{statement}
+use Rattle.plate.specs.Program.{Instruction, statement}
+use Rattle.plate.specs.Reading.{Place, stopped, number, judged, return, _>>=_, many}
 use Rattle.plate.specs.Plate.{text, options, fieldsBy}
-use Rattle.fields.specs.Places.{endWith, valuesOf}
+use Rattle.listing.specs.LineSizes.{lineRoom}
+use Rattle.fields.specs.Places.{measured}
 use Rattle.fields.proofs.Onward.{then-stopped}
-use Rattle.plate_texts.proofs.Ended.{ended-got, ended-stopped, ended-map}
-use Rattle.plate_texts.proofs.OptionsRead.{options-read}
-
-module _ (c : Phrases) (p q : Place) (k : ℕ) (e : got k q ≡ judged (number 3) (λ k. leb k 6) Unused p) where
-  abbrev all : Read (List Text)
-  all = many (λ j. text c) (k + 2) q
-
-  pub options-got : (v : ℕ) (s : Place) → got v s ≡ endWith (k + 2) all → got (valuesOf all) s ≡ options c p
-  options-got v s h = ended-got (k + 2) v s all h ∙ options-read c p q k e
-
-  pub options-stopped : {cause : Cause} {bit : ℕ} → stopped cause bit ≡ endWith (k + 2) all → stopped cause bit ≡ options c p
-  options-stopped h = ended-stopped (k + 2) all h ∙ options-read c p q k e
+use Rattle.plate_texts.proofs.Ended.{measured-alike, measured-map}
 
 pub options-refused : (c : Phrases) (p : Place) {cause : Cause} {bit : ℕ} → stopped cause bit ≡ judged (number 3) (λ k. leb k 6) Unused p
     → stopped cause bit ≡ options c p
@@ -48,14 +40,24 @@ fields-last c behind q (suc (suc (suc zero))) h0 h1 h2 h3 h4 = absurd (h3 refl)
 fields-last c behind q (suc (suc (suc (suc zero)))) h0 h1 h2 h3 h4 = absurd (h4 refl)
 fields-last c behind q (suc (suc (suc (suc (suc k))))) h0 h1 h2 h3 h4 = refl
 
--- print and printex are a text alone
+-- ---- the room of a statement's line, by the size of its last text or of its options
 
-pub fields-shown : (c : Phrases) (behind : ℕ) (q : Place) (k : ℕ) → (k ≡ 0 → ⊥) → (k ≡ 1 → ⊥) → (k ≡ 4 → ⊥) → (k ≡ 5 → ⊥) → k ≤ 5
-    → endWith 0 (text c q) ≡ endWith 0 (fieldsBy c behind k q)
-fields-shown c behind q zero h0 h1 h4 h5 h = absurd (h0 refl)
-fields-shown c behind q (suc zero) h0 h1 h4 h5 h = absurd (h1 refl)
-fields-shown c behind q (suc (suc zero)) h0 h1 h4 h5 h = ended-map 0 (text c) (λ t. statement (print t)) q
-fields-shown c behind q (suc (suc (suc zero))) h0 h1 h4 h5 h = ended-map 0 (text c) (λ t. statement (printex t)) q
-fields-shown c behind q (suc (suc (suc (suc zero)))) h0 h1 h4 h5 h = absurd (h4 refl)
-fields-shown c behind q (suc (suc (suc (suc (suc zero))))) h0 h1 h4 h5 h = absurd (h5 refl)
-fields-shown c behind q (suc (suc (suc (suc (suc (suc k)))))) h0 h1 h4 h5 h = absurd (omega arith)
+-- the room of an instruction that was read
+abbrev pub roomOf : Instruction → ℕ
+roomOf i = upTo (lineRoom i)
+
+module _ (c : Phrases) (q : Place) where
+  pub input-sized : (r : ℕ) → measured (λ t. upTo (10 + length t)) (text c q) ≡ measured roomOf ((text c >>= λ t. return (statement (input r t))) q)
+  input-sized r = measured-map roomOf (text c) (λ t. statement (input r t)) q
+
+  pub inputs-sized : (r asked : ℕ) (t : Text) → asked ≡ upTo (11 + length t)
+      → measured (λ os. upTo (asked + length (optionsBytes os))) (options c q) ≡ measured roomOf ((options c >>= λ os. return (statement (inputs r t os))) q)
+  inputs-sized r asked t e =
+      measured-alike _ (λ os. roomOf (statement (inputs r t os))) (λ os. omega arith) (options c q)
+      ∙ measured-map roomOf (options c) (λ os. statement (inputs r t os)) q
+
+  pub print-sized : (behind : ℕ) → measured (λ t. upTo (7 + length t)) (text c q) ≡ measured roomOf (fieldsBy c behind 2 q)
+  print-sized behind = measured-map roomOf (text c) (λ t. statement (print t)) q
+
+  pub printex-sized : (behind : ℕ) → measured (λ t. upTo (9 + length t)) (text c q) ≡ measured roomOf (fieldsBy c behind 3 q)
+  printex-sized behind = measured-map roomOf (text c) (λ t. statement (printex t)) q

@@ -12,7 +12,7 @@ use Rattle.plate.specs.Plate.{text, options, fieldsBy}
 use Rattle.fields.specs.Places.{placeAt, endWith, valuesOf, Known}
 use Rattle.fields.proofs.Onward.{then-got}
 use Rattle.plate_texts.proofs.Known.{known-same, known-first, known-then}
-use Rattle.plate_texts.proofs.Ended.{ended-some, ended-got, ended-map}
+use Rattle.plate_texts.proofs.Ended.{ended-some, measured-got, measured-map}
 use Rattle.instructions.specs.declared.Head.{Head}
 use Rattle.instructions.specs.declared.Head.the-variants.{Input, Inputs, Print, Printex, Goto, IfSkip}
 use Rattle.instructions.specs.Heads.{headed, instructionOf}
@@ -40,7 +40,7 @@ module _ (plate : List ℕ) (c : Phrases) (h : Head) {m : Read Instruction} (e :
 
   pub input-end : {r bit : ℕ} → h ≡ Input r bit → endWith 0 (text c (placeAt plate bit)) ≡ endWith 0 m
   unfolding headed
-  input-end s = ended-map 0 (text c) _ _ ∙ ap (endWith 0) (as-headed s)
+  input-end s = measured-map (λ i. 0) (text c) _ _ ∙ ap (endWith 0) (as-headed s)
 
   pub print-read : {bit : ℕ} {t : Text} {q : Place} → h ≡ Print bit → got t q ≡ text c (placeAt plate bit) → got (statement (print t)) q ≡ m
   unfolding headed return
@@ -48,7 +48,7 @@ module _ (plate : List ℕ) (c : Phrases) (h : Head) {m : Read Instruction} (e :
 
   pub print-end : {bit : ℕ} → h ≡ Print bit → endWith 0 (text c (placeAt plate bit)) ≡ endWith 0 m
   unfolding headed
-  print-end s = ended-map 0 (text c) _ _ ∙ ap (endWith 0) (as-headed s)
+  print-end s = measured-map (λ i. 0) (text c) _ _ ∙ ap (endWith 0) (as-headed s)
 
   pub printex-read : {bit : ℕ} {t : Text} {q : Place} → h ≡ Printex bit → got t q ≡ text c (placeAt plate bit)
       → got (statement (printex t)) q ≡ m
@@ -57,7 +57,7 @@ module _ (plate : List ℕ) (c : Phrases) (h : Head) {m : Read Instruction} (e :
 
   pub printex-end : {bit : ℕ} → h ≡ Printex bit → endWith 0 (text c (placeAt plate bit)) ≡ endWith 0 m
   unfolding headed
-  printex-end s = ended-map 0 (text c) _ _ ∙ ap (endWith 0) (as-headed s)
+  printex-end s = measured-map (λ i. 0) (text c) _ _ ∙ ap (endWith 0) (as-headed s)
 
   pub inputs-read : {r bit : ℕ} {t : Text} {os : List Text} {q u : Place} → h ≡ Inputs r bit → got t q ≡ text c (placeAt plate bit)
       → got os u ≡ options c q → got (statement (inputs r t os)) u ≡ m
@@ -67,7 +67,7 @@ module _ (plate : List ℕ) (c : Phrases) (h : Head) {m : Read Instruction} (e :
   pub inputs-end : {r bit : ℕ} {q : Place} → h ≡ Inputs r bit → got 0 q ≡ endWith 0 (text c (placeAt plate bit))
       → endWith 0 (options c q) ≡ endWith 0 m
   unfolding headed
-  inputs-end s f = ended-map 0 (options c) _ _ ∙ ap (endWith 0) (then-got _ _ _ (ended-got 0 0 _ _ f) ∙ as-headed s)
+  inputs-end s f = measured-map (λ i. 0) (options c) _ _ ∙ ap (endWith 0) (then-got _ _ _ (measured-got (λ ts. 0) 0 _ _ f) ∙ as-headed s)
 
   pub goto-read : {k next : ℕ} → h ≡ Goto k next → got (goto k) (placeAt plate next) ≡ m
   unfolding headed
@@ -117,9 +117,9 @@ module _ (plate : List ℕ) (c : Phrases) (h : Head) {m : Read Instruction} (e :
     -- the options stand behind the text, which ends at q
     pub inputs-options : {r bit : ℕ} {q : Place} → h ≡ Inputs r bit → got 0 q ≡ endWith 0 (text c (placeAt plate bit)) → Known (options c q)
     unfolding headed
-    inputs-options s f = known-first _ _ _ (known-then _ _ _ (known-same (as-headed s) w) (ended-got 0 0 _ _ f))
+    inputs-options s f = known-first _ _ _ (known-then _ _ _ (known-same (as-headed s) w) (measured-got (λ ts. 0) 0 _ _ f))
 
     pub inputs-is : {r bit : ℕ} {q : Place} → h ≡ Inputs r bit → got 0 q ≡ endWith 0 (text c (placeAt plate bit))
         → instructionOf m ≡ statement (inputs r (valuesOf (text c (placeAt plate bit))) (valuesOf (options c q)))
     inputs-is s f =
-        sym (ap instructionOf (inputs-read s (ended-got 0 0 _ _ f) (values-there _ (inputs-options s f) .1)))
+        sym (ap instructionOf (inputs-read s (measured-got (λ ts. 0) 0 _ _ f) (values-there _ (inputs-options s f) .1)))

@@ -1,5 +1,5 @@
 // The instructions of a plate, read at a bit. The one reader of instructions, for the run and for the converter.
-// An instruction that is read first is judged, and answers its end alone (`pass_instruction`). Of one that was read before, the head is
+// An instruction that is read first is judged, and answers its room and its end (`pass_instruction`). Of one that was read before, the head is
 // read, which says where its texts begin (`accepted_head`), then the fields of an if (`accepted_if`), or the instruction's end
 // (`accepted_end`): nothing is judged again. The contracts say it by the readers of crate plate's specs/Plate.antt; specs/Heads.antt
 // says which instruction a head begins.

@@ -18,7 +18,7 @@ use Rattle.lines.specs.declared.Form.{Form}
 use Rattle.lines.specs.declared.Form.the-variants.{Guide, Listing}
 use Rattle.lines.specs.declared.Head.{Head}
 use Rattle.lines.specs.declared.Head.the-variants as head
-use Rattle.lines.specs.declared.words.Kind.{Kind}
+use Rattle.lines.specs.declared.Kind.{Kind}
 use Rattle.lines.specs.Line.{Line, says, ifLine, gotoLine, ifSkipLine, faulty, valued, given}
 use Rattle.lines.specs.Line.{textLine, inputLine, optionCount, inputsLine, ifFields, bareLine, gotoFields, fieldsLine, lineOf}
 use Rattle.lines.specs.Words.{lineOfKind}

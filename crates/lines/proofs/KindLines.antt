@@ -15,8 +15,8 @@ use Rattle.text.proofs.Tests.{same-equal}
 use Rattle.text.proofs.Places.{parts-whole, parts-next, same-short}
 use Rattle.transcript.specs.declared.Op.the-variants.{Eq, Ne, Lt, Le, Gt, Ge}
 use Rattle.lines.specs.declared.Form.{Form}
-use Rattle.lines.specs.declared.words.Kind.{Kind}
-use Rattle.lines.specs.declared.words.Kind.the-variants.{
+use Rattle.lines.specs.declared.Kind.{Kind}
+use Rattle.lines.specs.declared.Kind.the-variants.{
   Phrase,
   Input,
   Inputs,

@@ -6,14 +6,6 @@ pub mod Accepts
 pub mod KindLines
 pub mod FieldCounts
 pub mod FieldPlaces
-pub mod FieldValues
-pub mod FieldBytes
 pub mod CleanLines
 pub mod CleanTexts
-pub mod Begins
 pub mod LineTexts
-pub mod KnownFields
-pub mod KnownValues
-pub mod KnownLines
-pub mod KnownConstants
-pub mod TestFields

@@ -1,16 +1,14 @@
--- The words of a line: the kind that a word names, the line of each kind and where its fields begin, and the answer of the operator's reader.
+-- The words of a line: the kind that a word names, the line of each kind and where its fields begin.
 use Prim.Native.Nat.{ℕ}
 use mathlib.Core.List.{List}
 use mathlib.Core.Bool.{cond}
-use mathlib.Core.Option.{Option, none, some}
 use Rattle.causes.specs.declared.Cause.the-variants as cause
 use Rattle.text.specs.Quoted.{bytes}
 use Rattle.text.specs.Parts.{same}
 use Rattle.transcript.specs.Statement.{print, printex}
-use Rattle.transcript.specs.declared.Op.{Op}
 use Rattle.lines.specs.declared.Form.{Form}
-use Rattle.lines.specs.declared.words.Kind.{Kind}
-use Rattle.lines.specs.declared.words.Kind.the-variants.{
+use Rattle.lines.specs.declared.Kind.{Kind}
+use Rattle.lines.specs.declared.Kind.the-variants.{
   Phrase,
   Input,
   Inputs,
@@ -22,8 +20,6 @@ use Rattle.lines.specs.declared.words.Kind.the-variants.{
   Goto,
   Unknown,
 }
-use Rattle.lines.specs.declared.words.Operator.{Operator}
-use Rattle.lines.specs.declared.words.Operator.the-variants as operator
 use Rattle.lines.specs.Line.{Line, phrase, says, elseLine, fiLine, faulty}
 use Rattle.lines.specs.Line.{textLine, inputLine, inputsLine, ifFields, bareLine, gotoFields}
 
@@ -65,8 +61,3 @@ lineOfKind form Else fs = bareLine form elseLine fs
 lineOfKind form Fi fs = bareLine form fiLine fs
 lineOfKind form Goto fs = gotoFields form fs
 lineOfKind form Unknown fs = faulty cause.Kind
-
--- of the operator's reader
-abbrev pub operatorAnswer : Option Op → Operator
-operatorAnswer none = operator.Wrong
-operatorAnswer (some op) = operator.Is op

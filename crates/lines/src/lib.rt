@@ -1,28 +1,29 @@
-// The lines of a guide and of a listing: one line by itself, in code too; and the check over the lines, as definitions with their
-// laws. The code of the check is in crate check_lines.
-// `read_line` takes any bytes and answers the line's kind with its numbers, or its cause 3, 4 or 5;
-// `accepted_line` does the same for a line that is known to have none of them, and `accepted_kind` answers such a line's kind alone;
-// `behind_register` answers where the fields behind its register begin.
-// Each contract says the whole answer by a definition: specs/Line.antt what a line is, specs/Check.antt what the check finds.
-mod accepted;
-mod fields;
-mod line;
-mod values;
-mod words;
-
-pub use accepted::accepted_kind;
-pub use accepted::accepted_line;
+// The lines of a guide and of a listing: one line by itself, and the check over the lines. Definitions and their laws, no code.
+// specs/Line.antt says what a line is, with its cause 3, 4 or 5; specs/Check.antt what the check finds; specs/Clean.antt which lines have
+// none of these causes. The types are those of the code in line_reader (any line, judged), accepted_lines (a line that has none of these
+// causes, read again) and check_lines (the check), whose contracts say the whole answer by these definitions.
 use causes::Cause;
 use causes::Refusal;
-pub use line::read_line;
 use transcript::Test;
-pub use values::behind_register;
-pub use words::Kind;
 
 // The two texts that are read line by line.
 pub enum Form {
     Guide,
     Listing,
+}
+
+// The kind that a line's first field names.
+pub enum Kind {
+    Phrase,
+    Input,
+    Inputs,
+    Print,
+    Printex,
+    If,
+    Else,
+    Fi,
+    Goto,
+    Unknown,
 }
 
 // A line without its texts, which stay where they are in the text.

@@ -6,4 +6,5 @@ pub mod Passing
 pub mod Skips
 pub mod Listings
 pub mod Sizes
+pub mod LineSizes
 pub mod RoundTrips

@@ -21,7 +21,7 @@ use Rattle.plate.proofs.Valid.{ProgramOk}
 use Rattle.listing.specs.Listing.{operatorWord, linesText, listingText}
 use Rattle.listing.proofs.ListingLines.{lineFields, programLines, program-fields, program-ok}
 
-operator-size : (o : Op) → length (operatorWord o) ≡ 2
+pub operator-size : (o : Op) → length (operatorWord o) ≡ 2
 operator-size Eq = refl
 operator-size Ne = refl
 operator-size Lt = refl

@@ -1,6 +1,6 @@
 -- A phrase by its place, as the code reads it.
 use Prim.Native.Nat.{ℕ, _+_, _≤_, _<_}
-use mathlib.Core.Path.{_≡_, refl, sym, ap, _∙_}
+use mathlib.Core.Path.{_≡_, sym, ap, _∙_}
 use mathlib.Core.List.{List, []}
 use mathlib.Core.Bool.{Bool, true, false, cond, true≢false}
 use native.Mathlib.Omega.{arith}
@@ -20,7 +20,7 @@ use Rattle.fields.specs.declared.Field.{Field}
 use Rattle.fields.specs.declared.Field.the-variants.{Is, Refused}
 use Rattle.plate.specs.Reading.{Place, Read, got, stopped, Reader, number, judged, return}
 use Rattle.plate.specs.Plate.{phraseAt, phrase}
-use Rattle.fields.specs.Places.{placeAt, fieldRead, endWith, Known}
+use Rattle.fields.specs.Places.{placeAt, fieldRead, Known}
 use Rattle.plate_texts.specs.declared.phrase_place.Source.{Source}
 use Rattle.plate_texts.specs.Sources.{source, sourceRead}
 use Rattle.plate_texts.specs.TextsAt.{Lent}
@@ -132,6 +132,13 @@ module _ {plate index book own : List ℕ} {count : ℕ} (l : Lent plate index b
           go true z all = omega (arith, ltb-true i n h, l .listed .numbers .whole)
           go false z all = absurd (true≢false (sym z))
 
+      -- a place that was judged
+      pub place-good : (i next : ℕ) → got i (placeAt plate next) ≡ judged (number (width n)) (λ i. ltb i n) Unused (placeAt plate (at + k))
+          → (isOwn ≡ false → i < length (bookTexts book)) × (isOwn ≡ true → i < count)
+      place-good i next j =
+          let below = got-good _ (gives-judged (λ i. ltb i n) Unused (gives-number (width n))) j .1 in
+          (place-below i below, own-below i below)
+
       -- the phrase at a place that is the part of what was read ahead
       module _ (ahead : ℕ) (a : ahead ≡ aheadIn plate at) (near : k ≤ 3)
           (w : Known (phrase (bookTexts book) (ownTexts count own) here)) {own′ : Bool} {i next : ℕ}
@@ -147,12 +154,10 @@ module _ {plate index book own : List ℕ} {count : ℕ} (l : Lent plate index b
         phrase-ahead = ap (λ b. got (phraseIn book own b i) (placeAt plate next)) (r .0) ∙ phrase-read (Is i next) place-part
 
         phrase-below : own′ ≡ false → i < length (bookTexts book)
-        phrase-below z =
-            place-below i (got-good _ (gives-judged (λ i. ltb i n) Unused (gives-number (width n))) place-part .1) (sym (r .0) ∙ z)
+        phrase-below z = place-good i next place-part .0 (sym (r .0) ∙ z)
 
         phrase-own-below : own′ ≡ true → i < count
-        phrase-own-below z =
-            own-below i (got-good _ (gives-judged (λ i. ltb i n) Unused (gives-number (width n))) place-part .1) (sym (r .0) ∙ z)
+        phrase-own-below z = place-good i next place-part .1 (sym (r .0) ∙ z)
 
   -- a phrase that is known to be good, by its source
   pub phrase-accepted : (isOwn : Bool) (k n : ℕ) {texts : ℕ} → texts ≡ getD index 0 0
@@ -165,9 +170,3 @@ module _ {plate index book own : List ℕ} {count : ℕ} (l : Lent plate index b
       let e′ = e ∙ source-alike texts t in
       let s = source-good isOwn n k e′ some in
       (phrase-ahead isOwn n k e′ s ahead a near w r, (phrase-below isOwn n k e′ s ahead a near w r, phrase-own-below isOwn n k e′ s ahead a near w r))
-
--- only the end of a phrase
-pub phrase-ended : (plate book own : List ℕ) (f : Field) (isOwn : Bool)
-    → endWith 0 (fieldRead plate f) ≡ endWith 0 (phraseRead plate book own isOwn f)
-phrase-ended plate book own (Is i next) isOwn = refl
-phrase-ended plate book own (Refused r) isOwn = refl

@@ -1,7 +1,7 @@
 -- Texts as the code reads them: the code, and one text behind the other.
 use Prim.Native.Nat.{ℕ, zero, suc, _+_, _-_, _*_, _≤_, _<_}
 use mathlib.Core.Path.{_≡_, refl, sym, ap, _∙_}
-use mathlib.Core.List.{List, _∷_}
+use mathlib.Core.List.{List, [], _∷_}
 use mathlib.Core.Bool.{true, false, false≢true}
 use native.Mathlib.Numerals.{sub-one}
 use native.Mathlib.Omega.{arith}
@@ -13,7 +13,8 @@ use Rattle.bits.specs.Ahead.{aheadIn, partAhead}
 use Rattle.phrases.specs.Phrases.{Phrases}
 use Rattle.plate.specs.Reading.{Place, Read, got, stopped, Reader, number, judged, return, onward, _>>=_, many}
 use Rattle.plate.specs.Plate.{isTextCode, textBy, text, spelled, phrase}
-use Rattle.fields.specs.Places.{placeAt, endWith, Known}
+use Rattle.fields.specs.Places.{placeAt, measured, Known}
+use Rattle.plate_texts.proofs.Ended.{measured-alike}
 use Rattle.plate_texts.proofs.Known.{known-same, known-first, known-judged}
 use Rattle.fields.proofs.Ahead.{part-read}
 use Rattle.plate_texts.specs.TextsAt.{codeWith}
@@ -86,42 +87,46 @@ unused-code n (suc (suc (suc k))) h g = refl
 
 -- ---- one behind the other
 
--- what is left of n ends where all of them end; each reader is told how many come behind it
-pub record Passing {A : Type 0} (r : ℕ → Reader A) (p : Place) (n left : ℕ) (q : Place) : Type 0 where
-  pub rest : endWith n (many r left q) ≡ endWith n (many r n p)
+-- what is left of n ends where all of them end, and has the size that all of them have; each reader is told how many come behind it
+pub record Passing {A : Type 0} (r : ℕ → Reader A) (p : Place) (n : ℕ) (whole : List A → ℕ) (left : ℕ) (q : Place) (size : List A → ℕ) : Type 0 where
+  pub rest : measured size (many r left q) ≡ measured whole (many r n p)
 
 module _ {A : Type 0} (r : ℕ → Reader A) where
-  pub passing-start : (p : Place) (n : ℕ) → Passing r p n n p
-  passing-start p n = record { rest = refl }
+  pub passing-start : (p : Place) (n : ℕ) (whole size : List A → ℕ) → ((xs : List A) → size xs ≡ whole xs) → Passing r p n whole n p size
+  passing-start p n whole size h = record { rest = measured-alike size whole h (many r n p) }
 
-  end-more : (n left : ℕ) (q s : Place) (a : A) → got a s ≡ r left q → endWith n (many r left s) ≡ endWith n (many r (suc left) q)
+  more : (size : List A → ℕ) (left : ℕ) (q s : Place) (a : A) → got a s ≡ r left q
+      → measured (λ xs. size (a ∷ xs)) (many r left s) ≡ measured size (many r (suc left) q)
   unfolding many _>>=_ return
-  end-more n left q s a e = go (many r left s)
-      ∙ ap (λ m. endWith n (onward m (λ a. many r left >>= λ as′. return (a ∷ as′)))) e
+  more size left q s a e = go (many r left s)
+      ∙ ap (λ m. measured size (onward m (λ a. many r left >>= λ as′. return (a ∷ as′)))) e
     where
-      go : (m : Read (List A)) → endWith n m ≡ endWith n (onward m (λ as′. return (a ∷ as′)))
+      go : (m : Read (List A)) → measured (λ xs. size (a ∷ xs)) m ≡ measured size (onward m (λ as′. return (a ∷ as′)))
       go (got as′ q) = refl
       go (stopped cause bit) = refl
 
-  module _ {p : Place} {n : ℕ} (left : ℕ) {q : Place} (w : Passing r p n left q) where
-    pub passing-more : (s : Place) (a : A) → 0 < left → got a s ≡ r (left - 1) q → Passing r p n (left - 1) s
-    passing-more s a h e = go left h w e
+  module _ {p : Place} {n : ℕ} {whole : List A → ℕ} (left : ℕ) {q : Place} {size : List A → ℕ} (w : Passing r p n whole left q size) where
+    pub passing-more : (s : Place) (a : A) (next : List A → ℕ) → 0 < left → got a s ≡ r (left - 1) q
+        → ((xs : List A) → next xs ≡ size (a ∷ xs)) → Passing r p n whole (left - 1) s next
+    passing-more s a next h e same = go left h w e
       where
-        go : (k : ℕ) → 0 < k → Passing r p n k q → got a s ≡ r (k - 1) q → Passing r p n (k - 1) s
-        go zero h w e = absurd (omega arith)
-        go (suc k) h w e = let e′ = rw sub-one at e in rw sub-one (record { rest = end-more n k q s a e′ ∙ w .rest })
-
-    pub passing-stopped : {cause : Cause} {bit : ℕ} → 0 < left → stopped cause bit ≡ r (left - 1) q
-        → stopped cause bit ≡ endWith n (many r n p)
-    unfolding many
-    passing-stopped {cause} {bit} h e = go left h w e
-      where
-        go : (k : ℕ) → 0 < k → Passing r p n k q → stopped cause bit ≡ r (k - 1) q → stopped cause bit ≡ endWith n (many r n p)
+        go : (k : ℕ) → 0 < k → Passing r p n whole k q size → got a s ≡ r (k - 1) q → Passing r p n whole (k - 1) s next
         go zero h w e = absurd (omega arith)
         go (suc k) h w e =
             let e′ = rw sub-one at e in
-            ap (endWith n) (then-stopped (r k) (λ a. many r k >>= λ as′. return (a ∷ as′)) q e′) ∙ w .rest
+            rw sub-one (record { rest = measured-alike next _ same (many r k s) ∙ more size k q s a e′ ∙ w .rest })
 
-    pub passing-end : left ≡ 0 → got n q ≡ endWith n (many r n p)
+    pub passing-stopped : {cause : Cause} {bit : ℕ} → 0 < left → stopped cause bit ≡ r (left - 1) q
+        → stopped cause bit ≡ measured whole (many r n p)
+    unfolding many
+    passing-stopped {cause} {bit} h e = go left h w e
+      where
+        go : (k : ℕ) → 0 < k → Passing r p n whole k q size → stopped cause bit ≡ r (k - 1) q → stopped cause bit ≡ measured whole (many r n p)
+        go zero h w e = absurd (omega arith)
+        go (suc k) h w e =
+            let e′ = rw sub-one at e in
+            ap (measured size) (then-stopped (r k) (λ a. many r k >>= λ as′. return (a ∷ as′)) q e′) ∙ w .rest
+
+    pub passing-end : {v : ℕ} → left ≡ 0 → v ≡ size [] → got v q ≡ measured whole (many r n p)
     unfolding many return
-    passing-end z = (rw z at w) .rest
+    passing-end z e = ap (λ v. got v q) e ∙ (rw z at w) .rest

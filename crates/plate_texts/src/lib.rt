@@ -2,7 +2,7 @@
 // Every function takes any bits and reads from any bit on. Its contract says that its answer stands, by a map of specs/TextsAt.antt, for
 // what a reader of crate plate's specs/Plate.antt finds there.
 // Asked of a caller (`Lent`): a plate of at most 2,953 bytes, the index of the book, and own phrases that are there with their numbers.
-// A text that is read first is judged, and answers its end alone; one that was read before is copied into a lent buffer.
+// A text that is read first is judged, and answers its size and its end; one that was read before is copied into a lent buffer.
 mod copying;
 mod phrase_place;
 mod refusals;

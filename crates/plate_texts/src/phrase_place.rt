@@ -7,11 +7,12 @@ ghost use lib.ListN.{length, getD};
 ghost use lib.Dec.{ltb};
 ghost use Rattle.causes.specs.declared.Cause.the-variants.{Unused};
 ghost use Rattle.bits.specs.Ahead.{aheadIn, partAhead};
+ghost use Rattle.output.specs.Pour.{upTo};
 ghost use Rattle.phrases.specs.Phrases.{width};
 ghost use Rattle.phrases.specs.Lookup.{bookTexts, ownTexts, phraseIn};
 ghost use Rattle.plate.specs.Reading.{got, number, judged};
 ghost use Rattle.plate.specs.Plate.{phrase};
-ghost use Rattle.fields.specs.Places.{placeAt, fieldRead, endWith, Known};
+ghost use Rattle.fields.specs.Places.{placeAt, fieldRead, measured, Known};
 ghost use Rattle.plate_texts.specs.Sources.{source, sourceRead};
 ghost use Rattle.plate_texts.specs.TextsAt.{Lent};
 use causes::Cause;
@@ -80,28 +81,30 @@ fn read_source(plate: &[u8], ahead: usize, at: usize, texts: usize, count: usize
     }
 }
 
-// The bit behind a phrase: its source, and its place there, which is judged.
-pub fn pass_phrase(
+// The size of a phrase, added to that of what stands before it, and the bit behind it: its source, and its place there, which is judged.
+pub fn pass_phrase<'a>(
     plate: &[u8],
     ahead: usize,
     at: usize,
-    index: &[u32],
-    book: &[u8],
-    own: &[u8],
+    index: &'a [u32],
+    book: &'a [u8],
+    own: &'a [u8],
     count: usize,
+    front: usize,
 ) -> Field
     requires { ⌜ Lent (now plate) (now index) (now book) (now own) count × (0 < getD (now index) 0 0 + count) × (ahead ≡ aheadIn (now plate) at) × (at + 2 ≤ length (now plate) * 8) ⌝ }
-    ensures { λ r. ⌜ fieldRead (now (plate .entry)) r ≡ endWith 0 (phrase (bookTexts (now (book .entry))) (ownTexts count (now (own .entry))) (placeAt (now (plate .entry)) (at + 2))) ⌝ }
+    ensures { λ r. ⌜ fieldRead (now (plate .entry)) r ≡ measured (λ t. upTo (front + length t)) (phrase (bookTexts (now (book .entry))) (ownTexts count (now (own .entry))) (placeAt (now (plate .entry)) (at + 2))) ⌝ }
 {
     let source = read_source(plate, ahead, at, phrases::count_of(index), count);
-    let Source::Is { own: _, n, k } = source else {
+    let Source::Is { own: is_own, n, k } = source else {
         return Field::Refused(source.refusal());
     };
     let field = read_place(plate, ahead, at, k, n);
-    let Field::Is(_, end) = field else {
+    let Field::Is(place, end) = field else {
         return field;
     };
-    Field::Is(0, end)
+    let text = phrase_lookup::phrase_text(index, book, own, is_own, place);
+    Field::Is(output::sum(front, text.len()), end)
 }
 
 // A phrase by its place in the book or among the own phrases, and the bit behind it.

@@ -8,14 +8,16 @@ use fields::Field;
 use fields::plain_ahead;
 use plate_characters::read_size;
 ghost use mathlib.Core.Path.{_≡_};
-ghost use Prim.Native.Nat.{_≤_};
+ghost use Prim.Native.Nat.{_+_, _≤_};
 ghost use lib.ListN.{length};
 ghost use Rattle.causes.specs.declared.Cause.the-variants.{Unused};
 ghost use Rattle.bits.specs.Ahead.{aheadIn};
+ghost use Rattle.output.specs.Pour.{upTo};
 ghost use Rattle.phrases.specs.Lookup.{phrasesIn};
+ghost use Rattle.transcript.specs.Offered.{optionsBytes};
 ghost use Rattle.plate.specs.Reading.{number, judged, many};
 ghost use Rattle.plate.specs.Plate as reader;
-ghost use Rattle.fields.specs.Places.{placeAt, fieldRead, endWith};
+ghost use Rattle.fields.specs.Places.{placeAt, fieldRead, measured};
 ghost use Rattle.plate_texts.specs.TextsAt.{codeWith, Lent};
 
 // Whether a code of a text is used, with so many phrases.
@@ -47,17 +49,18 @@ pub fn read_code(plate: &[u8], ahead: usize, at: usize, n: usize) -> Field
     })
 }
 
-// The bit behind a text, which is judged.
-pub fn pass_text(
+// The size of a text, which is judged, added to that of what stands before it, and the bit behind the text.
+pub fn pass_text<'a>(
     plate: &[u8],
     at: usize,
-    index: &[u32],
-    book: &[u8],
-    own: &[u8],
+    index: &'a [u32],
+    book: &'a [u8],
+    own: &'a [u8],
     count: usize,
+    front: usize,
 ) -> Field
     requires { ⌜ Lent (now plate) (now index) (now book) (now own) count ⌝ }
-    ensures { λ r. ⌜ fieldRead (now (plate .entry)) r ≡ endWith 0 (reader.text (phrasesIn (now (book .entry)) (now (own .entry)) count) (placeAt (now (plate .entry)) at)) ⌝ }
+    ensures { λ r. ⌜ fieldRead (now (plate .entry)) r ≡ measured (λ t. upTo (front + length t)) (reader.text (phrasesIn (now (book .entry)) (now (own .entry)) count) (placeAt (now (plate .entry)) at)) ⌝ }
 {
     let n = phrases::count_of(index) + count;
     let ahead = bits_ahead::read_ahead(plate, at);
@@ -66,7 +69,7 @@ pub fn pass_text(
         return field;
     };
     if code != 0 {
-        return pass_phrase(plate, ahead, at, index, book, own, count);
+        return pass_phrase(plate, ahead, at, index, book, own, count, front);
     }
     let characters = read_size(plate, bit);
     let Field::Is(size, next) = characters else {
@@ -74,10 +77,10 @@ pub fn pass_text(
     };
     if is_sized(size) {
         if n == 0 {
-            return Field::Is(0, next);
+            return Field::Is(output::sum(front, size), next);
         }
         if is_no_phrase(plate, bit, size, index, book, own, count) {
-            return Field::Is(0, next);
+            return Field::Is(output::sum(front, size), next);
         }
     }
     Field::Refused(Refusal {
@@ -86,28 +89,32 @@ pub fn pass_text(
     })
 }
 
-// The bit behind n texts, one behind the other.
-pub fn pass_texts(
+// The same of n texts, each behind a comma.
+pub fn pass_texts<'a>(
     plate: &[u8],
     at: usize,
     n: usize,
-    index: &[u32],
-    book: &[u8],
-    own: &[u8],
+    index: &'a [u32],
+    book: &'a [u8],
+    own: &'a [u8],
     count: usize,
+    front: usize,
 ) -> Field
     requires { ⌜ Lent (now plate) (now index) (now book) (now own) count ⌝ }
-    ensures { λ r. ⌜ fieldRead (now (plate .entry)) r ≡ endWith n (many (λ j. reader.text (phrasesIn (now (book .entry)) (now (own .entry)) count)) n (placeAt (now (plate .entry)) at)) ⌝ }
+    ensures { λ r. ⌜ fieldRead (now (plate .entry)) r ≡ measured (λ ts. upTo (front + length (optionsBytes ts))) (many (λ j. reader.text (phrasesIn (now (book .entry)) (now (own .entry)) count)) n (placeAt (now (plate .entry)) at)) ⌝ }
 {
     let mut bit = at;
     let mut left = n;
+    let mut size = front;
     while 0 < left {
-        let text = pass_text(plate, bit, index, book, own, count);
-        let Field::Is(_, next) = text else {
+        let comma = output::sum(size, 1);
+        let text = pass_text(plate, bit, index, book, own, count, comma);
+        let Field::Is(more, next) = text else {
             return text;
         };
+        size = more;
         bit = next;
         left -= 1;
     }
-    Field::Is(n, bit)
+    Field::Is(size, bit)
 }

@@ -3,8 +3,8 @@
 // The book is checked, unless it is empty, which makes its index, then the whole plate, and a refusal leaves the buffer as it was. Only a
 // plate with own phrases is given room for them, so that a small plate clears no large array. Then the own phrases and the instructions are
 // written, each line at the front of the buffer's unwritten tail; an instruction is read again from its bits, and a text is copied from the
-// plate. A buffer that holds the longest listing is written at once; else the listing is made twice: first on no buffer, to learn its
-// length, and then on the lent one.
+// plate. A buffer with room for every line, which the first reading of the plate counts, is written at once; else the listing is made twice:
+// first on no buffer, to learn its length, and then on the lent one.
 mod passes;
 mod phrase_lines;
 

@@ -13,6 +13,7 @@ ghost use Rattle.plate_texts.specs.TextsAt.{Lent};
 ghost use Rattle.instructions.specs.Heads.{instructionOf};
 ghost use Rattle.reader.specs.Holding.{There, instructionsAt, programAt, Stands};
 ghost use Rattle.listing.specs.Listing.{instructionFields, linesText, listingText};
+ghost use Rattle.listing.specs.LineSizes.{linesRoom};
 use crate::phrase_lines::put_phrases;
 use causes::Cause;
 use causes::Refusal;
@@ -98,12 +99,12 @@ fn produce<'a>(
     let count = contents.own;
     let n = contents.instructions;
     let bit = contents.bit;
-    let end = put_phrases(own, count, out, 0);
+    let end = put_phrases(index, book, own, count, out, 0);
     put_instructions(plate, index, book, own, count, n, bit, out, end)
 }
 
-// Straight, where the buffer holds the longest listing; else first on no buffer, to learn the listing's length, and then 11, or the listing is
-// written.
+// Straight, where the buffer has room for every line; else first on no buffer, to learn the listing's length, and then 11, or the listing is
+// written. The room of the instructions' lines is known since the plate was read; the own phrases' lines are counted on no buffer.
 pub fn write<'a>(
     plate: &[u8],
     index: &'a [u32],
@@ -112,10 +113,13 @@ pub fn write<'a>(
     contents: Contents,
     listing: &mut [u8],
 ) -> Written
-    requires { ⌜ Stands (now plate) (now index) (now book) (now own) contents × (length (listingText (programAt (now plate) (now book) (now own) contents)) ≤ 327680) ⌝ }
+    requires { ⌜ Stands (now plate) (now index) (now book) (now own) contents × (length (linesText (map instructionFields (programAt (now plate) (now book) (now own) contents .instructions))) ≤ linesRoom (programAt (now plate) (now book) (now own) contents .instructions)) ⌝ }
     ensures { λ r. ⌜ (writtenAnswer r, now (listing .exit)) ≡ lent (made (output (listingText (programAt (now (plate .entry)) (now (book .entry)) (now (own .entry)) contents)))) (now (listing .entry)) ⌝ }
 {
-    if 327680 <= listing.len() {
+    let count = contents.own;
+    let room = contents.room;
+    let most = output::sum(put_phrases(index, book, own, count, &mut [], 0), room);
+    if most <= listing.len() {
         return Written::Done(produce(plate, index, book, own, contents, listing));
     }
     let length = produce(plate, index, book, own, contents, &mut []);

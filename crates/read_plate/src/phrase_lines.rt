@@ -3,6 +3,7 @@ ghost use mathlib.Core.Path.{_≡_};
 ghost use mathlib.Core.List.{[], _∷_, map};
 ghost use Rattle.output.specs.Pour.{poured};
 ghost use Rattle.phrases.specs.Lookup.{ownTexts};
+ghost use Rattle.phrases.specs.Own.{Listed};
 ghost use Rattle.listing.specs.Listing.{phraseFields, linesText};
 
 // `phrase,TEXT`, at the front of the tail.
@@ -23,20 +24,26 @@ fn phrase_at(text: &[u8], out: &mut [u8], at: usize) -> usize
     output::sum(at, n)
 }
 
-// The lines of all own phrases, which are the first `count` lines of `own`.
-pub fn put_phrases(own: &[u8], count: usize, out: &mut [u8], at: usize) -> usize
+// The lines of all own phrases, `count` of them.
+pub fn put_phrases<'a>(
+    index: &'a [u32],
+    book: &'a [u8],
+    own: &'a [u8],
+    count: usize,
+    out: &mut [u8],
+    at: usize,
+) -> usize
+    requires { ⌜ Listed (now index) (now book) (now own) count ⌝ }
     ensures { λ r. ⌜ (r, now (out .exit)) ≡ poured at (linesText (map phraseFields (ownTexts count (now (own .entry))))) (now (out .entry)) ⌝ }
 {
     let mut end = at;
     let mut n = 0;
-    let mut a = 0;
     while n < count {
-        if own.len() < a {
-            return end;
-        }
-        let e = text::find(own, a, b'\n');
-        end = phrase_at(text_parts::part(&own[a..e], b',', 1), out, end);
-        a = e + 1;
+        end = phrase_at(
+            phrase_lookup::phrase_text(index, book, own, true, n),
+            out,
+            end,
+        );
         n += 1;
     }
     end

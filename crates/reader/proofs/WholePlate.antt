@@ -11,14 +11,15 @@ use Rattle.causes.specs.declared.Cause.{Cause}
 use Rattle.causes.specs.declared.Cause.the-variants.{Unused, Filling, PlateTooLong}
 use Rattle.text.specs.Text.{Text}
 use Rattle.phrases.specs.Phrases.{Phrases}
-use Rattle.plate.specs.Program.{Program}
+use Rattle.plate.specs.Program.{Instruction, Program}
 use Rattle.plate.specs.Reading.{Place, Read, got, stopped, Reader, number, judged, return, onward, _>>=_, many}
 use Rattle.plate.specs.Plate.{ownCount, ownFrom, instruction, program, filling, wholePlate, resultOf, plateProgram}
 use Rattle.plate.proofs.Readers.{gives-number, gives-judged}
-use Rattle.fields.specs.Places.{placeAt, endWith}
+use Rattle.fields.specs.Places.{placeAt, measured, valuesOf}
 use Rattle.fields.proofs.Onward.{then-got, then-stopped, got-good}
-use Rattle.plate_texts.proofs.Ended.{ended-stopped}
-use Rattle.plate_texts.proofs.Ended.{ended-got}
+use Rattle.output.specs.Pour.{upTo}
+use Rattle.listing.specs.LineSizes.{linesRoom}
+use Rattle.plate_texts.proofs.Ended.{measured-some, measured-stopped, measured-got}
 use Rattle.reader.specs.Holding.{There, instructionsAt}
 use Rattle.reader.specs.Own.{ownPhrases}
 use Rattle.reader.specs.Filled.{isFilling}
@@ -28,6 +29,10 @@ use Rattle.reader.specs.Whole.{behindOwn, restOf}
 
 pub few-instructions : (p q : Place) (n : ℕ) → got n q ≡ judged (number 10) (λ n. leb n 512) Unused p → n ≤ 512
 few-instructions p q n e = leb-true n 512 (got-good p (gives-judged (λ n. leb n 512) Unused (gives-number 10)) e .1)
+
+-- the room of instructions that were read
+abbrev pub roomsOf : List Instruction → ℕ
+roomsOf is = upTo (linesRoom is)
 
 module _ (plate : List ℕ) (c : Phrases) (at : ℕ) where
   -- the program with the instructions that stand from a bit on
@@ -45,18 +50,23 @@ module _ (plate : List ℕ) (c : Phrases) (at : ℕ) where
   count-stopped e = rest-stopped (then-stopped _ _ (placeAt plate at) e)
 
   module _ (n bit : ℕ) (e : got n (placeAt plate bit) ≡ judged (number 10) (λ n. leb n 512) Unused (placeAt plate at)) where
-    pub instructions-stopped : {cause : Cause} {b : ℕ} → stopped cause b ≡ endWith n (many (instruction c) n (placeAt plate bit))
+    pub instructions-stopped : {cause : Cause} {b : ℕ} → stopped cause b ≡ measured roomsOf (many (instruction c) n (placeAt plate bit))
         → refused cause b ≡ resultOf (restOf c (placeAt plate at))
     unfolding behindOwn
     instructions-stopped h =
         rest-stopped
-        (then-stopped (many (instruction c) n) _ (placeAt plate bit) (ended-stopped n (many (instruction c) n (placeAt plate bit)) h)
+        (then-stopped (many (instruction c) n) _ (placeAt plate bit) (measured-stopped roomsOf (many (instruction c) n (placeAt plate bit)) h)
         ∙ then-got _ _ (placeAt plate at) e)
 
-    module _ (v end : ℕ) (h : got v (placeAt plate end) ≡ endWith n (many (instruction c) n (placeAt plate bit))) where
+    module _ (v end : ℕ) (h : got v (placeAt plate end) ≡ measured roomsOf (many (instruction c) n (placeAt plate bit))) where
       all-read : got (instructionsAt plate c n bit) (placeAt plate end) ≡ many (instruction c) n (placeAt plate bit)
       unfolding instructionsAt
-      all-read = ended-got n v (placeAt plate end) (many (instruction c) n (placeAt plate bit)) h
+      all-read = measured-got roomsOf v (placeAt plate end) (many (instruction c) n (placeAt plate bit)) h
+
+      pub instructions-counted : v ≡ roomsOf (instructionsAt plate c n bit)
+      instructions-counted =
+          let t = measured-some roomsOf v (placeAt plate end) (many (instruction c) n (placeAt plate bit)) h in
+          t .2 ∙ ap (λ m. roomsOf (valuesOf m)) (t .1 ∙ sym all-read)
 
       pub instructions-there : There (instruction c) plate n bit (instructionsAt plate c n bit)
       instructions-there = record { end = placeAt plate end; read = sym all-read }

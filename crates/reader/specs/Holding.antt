@@ -3,12 +3,14 @@ use Prim.Native.Nat.{ℕ, _≤_}
 use mathlib.Core.Path.{_≡_}
 use mathlib.Core.List.{List}
 use Rattle.causes.specs.Answers.{Result, made, refused}
+use Rattle.output.specs.Pour.{upTo}
 use Rattle.phrases.specs.Phrases.{Phrases}
 use Rattle.phrases.specs.Lookup.{ownTexts, phrasesIn}
 use Rattle.plate.specs.Program.{Instruction, Program}
 use Rattle.plate.specs.Reading.{Place, Reader, got, many}
 use Rattle.plate.specs.Plate.{instruction}
 use Rattle.fields.specs.Places.{placeAt, valuesOf}
+use Rattle.listing.specs.LineSizes.{linesRoom}
 use Rattle.plate_texts.specs.TextsAt.{Lent}
 use Rattle.reader.specs.declared.Contents.{Contents}
 use Rattle.reader.specs.declared.PlateRead.{PlateRead}
@@ -36,9 +38,10 @@ abbrev pub programRead : List ℕ → List ℕ → List ℕ → PlateRead → Re
 programRead plate book own (plates.Holds c) = made (programAt plate book own c)
 programRead plate book own (plates.Refused r) = refused (r .cause) (r .place)
 
--- contents whose own phrases and instructions are all there
+-- contents whose own phrases and instructions are all there, with the room of their lines
 pub record Stands (plate index book own : List ℕ) (c : Contents) : Type 0 where
   pub lent : Lent plate index book own (c .own)
   pub few : c .instructions ≤ 512
+  pub counted : c .room ≡ upTo (linesRoom (instructionsAt plate (phrasesIn book own (c .own)) (c .instructions) (c .bit)))
   pub whole : There (instruction (phrasesIn book own (c .own))) plate (c .instructions) (c .bit)
       (instructionsAt plate (phrasesIn book own (c .own)) (c .instructions) (c .bit))

@@ -13,11 +13,13 @@ pub use own::has_own;
 pub use passing::pass_instructions;
 pub use whole::read_contents;
 
-// What a plate holds: how many own phrases and instructions, and the bit of the first instruction.
+// What a plate holds: how many own phrases and instructions, the bit of the first instruction, and the room that the lines of the
+// instructions take at most in a listing.
 pub struct Contents {
     pub own: usize,
     pub instructions: usize,
     pub bit: usize,
+    pub room: usize,
 }
 
 // What reading a whole plate finds: its contents, or a refusal.

@@ -25,12 +25,12 @@ use fields::Field;
 use fields::read_field;
 
 // What follows the own phrases: the instruction count, the instructions and the filling.
-fn read_rest(
+fn read_rest<'a>(
     plate: &[u8],
     at: usize,
-    index: &[u32],
-    book: &[u8],
-    own: &[u8],
+    index: &'a [u32],
+    book: &'a [u8],
+    own: &'a [u8],
     count: usize,
 ) -> PlateRead
     requires { ⌜ Lent (now plate) (now index) (now book) (now own) count ⌝ }
@@ -42,7 +42,7 @@ fn read_rest(
         return PlateRead::Refused(first.refusal());
     };
     let second = pass_instructions(plate, bit, instructions, index, book, own, count);
-    let Field::Is(_, end) = second else {
+    let Field::Is(room, end) = second else {
         return PlateRead::Refused(second.refusal());
     };
     if is_filled(plate, end) {
@@ -50,6 +50,7 @@ fn read_rest(
             own: count,
             instructions,
             bit,
+            room,
         });
     }
     PlateRead::Refused(Refusal {
@@ -61,7 +62,12 @@ fn read_rest(
 // What a plate holds. Its own phrases, or those that are read before the reading stops, are the first lines of `own` afterwards; nothing
 // else changes there. `own` has room for 32 lines of 72 bytes, if the plate has own phrases. Their numbers stand behind the index of the
 // book afterwards.
-pub fn read_contents(plate: &[u8], index: &mut [u32], book: &[u8], own: &mut [u8]) -> PlateRead
+pub fn read_contents<'a>(
+    plate: &[u8],
+    index: &'a mut [u32],
+    book: &'a [u8],
+    own: &'a mut [u8],
+) -> PlateRead
     requires { ⌜ Indexed (now index) (now book) × (161 + length (bookTexts (now book)) ≤ length (now index)) × OwnRoom (now plate) (now own) ⌝ }
     ensures { λ r. ⌜ programRead (now (plate .entry)) (now (book .entry)) (now (own .exit)) r ≡ plateProgram (bookTexts (now (book .entry))) (now (plate .entry)) ⌝ }
     ensures { λ r. ⌜ ((c : contents.Contents) → r ≡ plates.Holds c → Stands (now (plate .entry)) (now (index .exit)) (now (book .entry)) (now (own .exit)) c) ⌝ }

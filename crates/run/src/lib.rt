@@ -4,7 +4,7 @@
 // The book is checked, unless it is empty, then the whole plate is read, and a refusal leaves the buffer as it was. Only a plate with own
 // phrases is given room for them, so that a small plate clears no large array. The run goes from instruction to instruction of the plate's
 // bits. Jumps only go forward, so to skip is to read on: it keeps the bit of the next instruction, how many are left, and how many of these
-// are passed over. A buffer that holds the longest transcript is written at once; else the run is made twice: first on no buffer, to learn
+// are passed over. A buffer that is surely long enough is written at once; else the run is made twice: first on no buffer, to learn
 // the transcript's length, and then on the lent one. Scratch is tested for its length and left alone.
 mod passes;
 

@@ -104,8 +104,9 @@ fn produce<'a>(
     )
 }
 
-// The run of an accepted plate. Straight, where the buffer holds 640 bytes for each instruction, which no transcript exceeds; else first on no
-// buffer, to learn the transcript's length, and then 11, or the transcript is written.
+// The run of an accepted plate. No transcript has more bytes than the room of its instructions' lines in a listing, less 4 for each instruction,
+// and 14 for each answer: a buffer of so many is written straight. Else the run is made on no buffer first, to learn the transcript's length;
+// then 11, or the transcript is written.
 pub fn write<'a>(
     plate: &[u8],
     index: &'a [u32],
@@ -120,8 +121,12 @@ pub fn write<'a>(
 {
     machine::see_answers(answers);
     let n = c.instructions;
-    if n * 640 <= transcript.len() {
-        return machine::report_of(produce(plate, index, book, own, c, answers, transcript));
+    let room = c.room;
+    if answers.len() <= 65536 {
+        let most = output::sum(room, 14 * answers.len());
+        if most <= transcript.len() + 4 * n {
+            return machine::report_of(produce(plate, index, book, own, c, answers, transcript));
+        }
     }
     let p = produce(plate, index, book, own, c, answers, &mut []);
     let length = p.end;

@@ -1,3 +1,4 @@
 pub mod Answers
 pub mod Options
 pub mod Performs
+pub mod Rooms

@@ -1,3 +1,4 @@
 pub mod WalkLines
+pub mod Counted
 pub mod Rooms
 pub mod Whole

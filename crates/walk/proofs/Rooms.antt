@@ -1,27 +1,26 @@
--- The walk of a guide writes no more bytes than the guide has, and 14 for each answer: each statement's line is no longer than its line
--- of the guide, of which none is walked twice, and an A line has at most 14 bytes.
-use Prim.Native.Nat.{ℕ, zero, suc, _+_, _*_, _≤_, _<_}
+-- The walk of a guide writes no more bytes than the guide has behind its own phrases less 4 for each instruction, and 14 for each answer:
+-- the line that a statement writes is at least 4 bytes shorter than its line of the guide, of which none is walked twice, the line of an if
+-- or an `else` has more than 4 bytes, and an A line has at most 14.
+use Prim.Native.Nat.{ℕ, zero, suc, _+_, _*_, _-_, _≤_, _<_}
 use native.Mathlib.Omega.{arith}
-use mathlib.Core.Path.{_≡_, refl, sym, ap, _∙_}
-use mathlib.Core.List.{List, [], _∷_, _++_}
-use mathlib.Core.Bool.{Bool, true, false, cond}
-use lib.ListN.{length, drop, length-append}
+use mathlib.Core.Path.{_≡_, sym, ap, _∙_}
+use mathlib.Core.List.{List, [], _∷_}
+use mathlib.Core.Bool.{Bool, true, false}
+use lib.ListN.{length, drop, length-append, length-drop}
 use lib.IntN.{ℤ}
 use Rattle.causes.specs.Answers.{made, Answer, lent}
 use Rattle.causes.specs.Answers as answer
 use Rattle.causes.specs.Causes.{outcomeNumber}
 use Rattle.text.specs.Parts.{split, join, comma, LF}
 use Rattle.text.proofs.Splits.{join-split}
-use Rattle.decimals.proofs.Constants.{decimal-short}
 use Rattle.output.proofs.Poured.{ended}
 use Rattle.transcript.specs.declared.Performed.{Performed}
-use Rattle.transcript.specs.Statement.{Statement, input, inputs, print, printex}
-use Rattle.transcript.specs.State.{TranscriptLine, asked, offered, answered, shown, ruled, State, start, step, writeLine, lineBytes, transcriptBytes}
-use Rattle.transcript.specs.Perform.{Ending, goesOn, verdict, waits, outside, takeAnswer, isOption, choose, perform, holds, stateOf, report}
+use Rattle.transcript.specs.State.{State, start, step, lineBytes, transcriptBytes}
+use Rattle.transcript.specs.Perform.{Ending, goesOn, verdict, waits, outside, perform, holds, stateOf, report}
 use Rattle.transcript.specs.Perform as perform
 use Rattle.transcript.specs.Machine.{Laid, laid, performed}
 use Rattle.statements.proofs.Performs.{firstLine}
-use Rattle.machine.proofs.Lay.{bytes-append, bytes-one}
+use Rattle.statements.proofs.Rooms.{stateRoom, perform-room, answers-room}
 use Rattle.machine.proofs.Follow.{lay-bytes}
 use Rattle.machine.proofs.Passes.{whole}
 use Rattle.lines.specs.declared.Form.{Form}
@@ -33,10 +32,10 @@ use Rattle.lines.proofs.FieldsRead.{as-if, as-else, as-fi, as-goto, as-if-skip,
 use Rattle.guide.specs.Lines.{roleOf, inBlock, beginsBy, firstRole, stops, openBehind, pass, bodyLines, linesAt}
 use Rattle.walk_blocks.specs.Descend.{Walker, here, follow, next, atElse, behindTrue, leaveTrue, leaveElse, elseBlock, walkIf}
 use Rattle.machine.specs.Ranged.{Ranged}
-use Rattle.machine.proofs.Ranges.{ranged-rest}
 use Rattle.walk_blocks.specs.Descend.{statementWith, blockWith, descend, walkText}
+use Rattle.walk.proofs.Counted.{lineCount, linesCount, Counted, guide-counted}
 
--- ---- what lines and answers still write
+-- ---- what lines still write
 
 -- the statement of a line
 abbrev lineRoom : Line → ℕ
@@ -53,42 +52,16 @@ abbrev linesRoom : List Line → ℕ
 linesRoom [] = 0
 linesRoom (l ∷ ls) = lineRoom l + linesRoom ls
 
-abbrev answersRoom : List ℤ → ℕ
-answersRoom [] = 0
-answersRoom (a ∷ rest) = length (lineBytes (answered a)) + answersRoom rest
+-- with 4 bytes for each instruction, what a line of the guide surely has
+abbrev lineSize : Line → ℕ
+lineSize l = lineRoom l + 4 * lineCount l
 
--- what is written, and what the answers left still write
-abbrev stateRoom : State → ℕ
-stateRoom s = length (transcriptBytes (s .transcript)) + answersRoom (s .left)
+abbrev linesSize : List Line → ℕ
+linesSize ls = linesRoom ls + 4 * linesCount ls
 
 -- what k leaves is no more than there was
 abbrev Within : Walker → Type 0
 Within k = (s : State) (ls : List Line) → stateRoom (stateOf (k s ls .ending)) + linesRoom (k s ls .lines) ≤ stateRoom s + linesRoom ls
-
--- ---- a statement
-
-line-more : (t : List TranscriptLine) (l : TranscriptLine)
-    → length (transcriptBytes (t ++ (l ∷ []))) ≡ length (transcriptBytes t) + length (lineBytes l)
-line-more t l = ap length (bytes-append t (l ∷ [])) ∙ simp (length-append, bytes-one)
-
-answer-room : (r : ℕ) (left : List ℤ) (s : State) → s .left ≡ left → stateRoom (stateOf (perform.answer r left s)) ≤ stateRoom s
-answer-room r [] s e = omega arith
-answer-room r (a ∷ rest) s e = rw e (omega (arith, line-more (s .transcript) (answered a)))
-
-choose-room : (r n : ℕ) (left : List ℤ) (s : State) → s .left ≡ left → stateRoom (stateOf (choose r n left s)) ≤ stateRoom s
-choose-room r n [] s e = omega arith
-choose-room r n (a ∷ rest) s e = go (isOption n a)
-  where
-    go : (v : Bool) → stateRoom (stateOf (cond v (goesOn (takeAnswer r a rest s)) (outside s))) ≤ stateRoom s
-    go true = rw e (omega (arith, line-more (s .transcript) (answered a)))
-    go false = omega arith
-
-perform-room : (x : Statement) (s : State) → stateRoom (stateOf (perform x s)) ≤ stateRoom s + length (lineBytes (firstLine x))
-unfolding perform
-perform-room (input r t) s = omega (arith, answer-room r (s .left) (writeLine (asked t) (step s)) refl, line-more (s .transcript) (asked t))
-perform-room (inputs r t os) s = omega (arith, choose-room r (length os) (s .left) (writeLine (offered t os) (step s)) refl, line-more (s .transcript) (offered t os))
-perform-room (print t) s = omega (arith, line-more (s .transcript) (shown t))
-perform-room (printex t) s = omega (arith, line-more (s .transcript) (ruled t))
 
 -- ---- lines passed
 
@@ -168,7 +141,7 @@ descend-within (suc n) s ls = go (beginsBy (firstRole ls)) (descend-within n)
 
 -- ---- the lines of a guide
 
-read-room : {form : Form} {fs : List (List ℕ)} {l : Line} → ReadAs form fs l → lineRoom l ≤ suc (length (join comma fs))
+read-room : {form : Form} {fs : List (List ℕ)} {l : Line} → ReadAs form fs l → lineSize l ≤ suc (length (join comma fs))
 unfolding join lineBytes
 read-room (as-fault c) = omega arith
 read-room (as-phrase h) = omega arith
@@ -182,53 +155,45 @@ read-room as-fi = omega arith
 read-room (as-goto k) = omega arith
 read-room (as-if-skip r o c k) = omega arith
 
-line-room : (t : List ℕ) → lineRoom (lineOf aGuide t) ≤ suc (length t)
+line-room : (t : List ℕ) → lineSize (lineOf aGuide t) ≤ suc (length t)
 line-room t = rw join-split at (read-room (line-read-as aGuide t))
 
-parts-room : (ps : List (List ℕ)) → linesRoom (linesIn aGuide ps) ≤ length (join LF ps)
+parts-room : (ps : List (List ℕ)) → linesSize (linesIn aGuide ps) ≤ length (join LF ps)
 unfolding linesIn join
 parts-room [] = omega arith
 parts-room ([] ∷ []) = omega arith
 parts-room ((b ∷ p) ∷ []) = omega arith
 parts-room (p ∷ q ∷ ps) = simp length-append (omega (arith, line-room p, parts-room (q ∷ ps)))
 
-body-room : (ls : List Line) → linesRoom (bodyLines ls) ≤ linesRoom ls
+body-room : (ls : List Line) → linesSize (bodyLines ls) ≤ linesSize ls
 unfolding bodyLines
 body-room [] = omega arith
 body-room (l ∷ ls) = go (inBlock (roleOf l)) (body-room ls)
   where
-    go : (v : Bool) → linesRoom (bodyLines ls) ≤ linesRoom ls
-        → linesRoom (elim v [ true ↦ l ∷ bodyLines ls | false ↦ bodyLines ls ]) ≤ linesRoom (l ∷ ls)
+    go : (v : Bool) → linesSize (bodyLines ls) ≤ linesSize ls
+        → linesSize (elim v [ true ↦ l ∷ bodyLines ls | false ↦ bodyLines ls ]) ≤ linesSize (l ∷ ls)
     go true h = omega arith
     go false h = omega arith
 
-guide-room : (g : List ℕ) → linesRoom (linesAt g 0) ≤ length g
+guide-room : (g : List ℕ) (a : ℕ) → linesSize (linesAt g a) ≤ length (drop a g)
 unfolding linesAt
-guide-room g = omega (arith, body-room (linesOf aGuide g), parts-room (split LF g), ap length (join-split LF g))
-
--- ---- the answers
-
-answers-room : (answers : List ℤ) → Ranged answers → answersRoom answers ≤ 14 * length answers
-unfolding lineBytes join
-answers-room [] h = omega arith
-answers-room (a ∷ rest) h =
-    let one : length (lineBytes (answered a)) ≤ 14 = simp length-append (omega (arith, decimal-short a (h .each 0))) in
-    omega (arith, answers-room rest (ranged-rest a rest h))
+guide-room g a = omega (arith, body-room (linesOf aGuide (drop a g)), parts-room (split LF (drop a g)), ap length (join-split LF (drop a g)))
 
 -- ---- the whole walk
 
-text-room : (g : List ℕ) (answers : List ℤ) → Ranged answers
-    → length (transcriptBytes (stateOf (walkText g answers) .transcript)) ≤ length g + 14 * length answers
+text-room : (g : List ℕ) (from : ℕ) (answers : List ℤ) → linesAt g 0 ≡ linesAt g from → Ranged answers
+    → length (transcriptBytes (stateOf (walkText g answers) .transcript)) + 4 * linesCount (linesAt g 0) ≤ (length g - from) + 14 * length answers
 unfolding walkText start transcriptBytes
-text-room g answers h =
-    omega (arith, descend-within (length g + 2) (start answers) (linesAt g 0), guide-room g, answers-room answers h)
+text-room g from answers s h =
+    omega (arith, descend-within (length g + 2) (start answers) (linesAt g 0), ap linesSize s, guide-room g from, length-drop from g, answers-room answers h)
 
 module _ (g : List ℕ) (answers rs : List ℤ) (p : Performed) (o out : List ℕ) (e : performed rs answers p o ≡ laid 0 (walkText g answers) out) where
   -- a buffer of so many bytes takes it
-  pub text-fits : Ranged answers → length g + 14 * length answers ≤ length out → p .end ≤ length out
-  text-fits h l =
+  pub text-fits : (own n from : ℕ) → Counted g own n → linesAt g 0 ≡ linesAt g from → Ranged answers
+      → (length g - from) + 14 * length answers ≤ length out + 4 * n → p .end ≤ length out
+  text-fits own n from c s h l =
       let new = transcriptBytes (stateOf (walkText g answers) .transcript) in
-      omega (arith, ended 0 new out (p .end) o (lay-bytes rs answers p o 0 (walkText g answers) out e), text-room g answers h)
+      omega (arith, ended 0 new out (p .end) o (lay-bytes rs answers p o 0 (walkText g answers) out e), text-room g from answers s h, guide-counted g own n c)
 
   -- it ends in every buffer at the same place
   pub text-ends : (us : List ℤ) (q : Performed) (new old : List ℕ) → performed us answers q new ≡ laid 0 (walkText g answers) old → p .end ≡ q .end

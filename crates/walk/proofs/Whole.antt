@@ -18,6 +18,7 @@ use Rattle.transcript.specs.Perform.{Ending, report}
 use Rattle.transcript.specs.Machine.{machineState, laid, performed}
 use Rattle.lines.specs.declared.Form.the-variants.{Guide as aGuide}
 use Rattle.lines.specs.declared.Checked.the-variants.{Fine, Refused}
+use Rattle.lines.specs.Line.{Line}
 use Rattle.lines.specs.Check.{linesOf}
 use Rattle.lines.specs.Answers.{seenIn, checkedAnswer}
 use Rattle.check_lines.proofs.Answers.{accept-is}
@@ -34,12 +35,15 @@ use Rattle.walk.proofs.WalkLines.{walk-lines}
 
 -- ---- the walk over the lines, from the start
 
-pub text-laid : (g : List ℕ) (answers rs : List ℤ) (m : Machine) (w : Walked) (us : List ℤ) (o out : List ℕ) → machineState rs answers m ≡ start answers
-    → Leaves g answers w us o 0 (descend (length g + 2) (machineState rs answers m) (linesAt g 0)) out
+pub text-laid : (g : List ℕ) (from : ℕ) (answers rs : List ℤ) (m : Machine) (w : Walked) (us : List ℤ) (o out : List ℕ)
+    → Leaves g answers w us o 0 (descend (length g + 2) (machineState rs answers m) (linesAt g from)) out
+    → linesAt g 0 ≡ linesAt g from → machineState rs answers m ≡ start answers
     → performed us answers (w .left) o ≡ laid 0 (walkText g answers) out
 unfolding walkText
-text-laid g answers rs m w us o out e f =
-    f .left ∙ ap (λ (s : State). laid 0 (descend (length g + 2) s (linesAt g 0) .ending) out) e
+text-laid g from answers rs m w us o out f s e =
+    f .left
+    ∙ ap (λ (s : State). laid 0 (descend (length g + 2) s (linesAt g from) .ending) out) e
+    ∙ ap (λ (ls : List Line). laid 0 (descend (length g + 2) (start answers) ls .ending) out) (sym s)
 
 -- ---- the book and the guide
 

@@ -27,10 +27,13 @@ pub fn walk(guide: &[u8], book: &[u8], answers: &[i32], transcript: &mut [u8]) -
         }),
         Book::Holds(_) => match check_lines::check(Form::Guide, &mut index, book, guide) {
             Checked::Refused(r) => Ran::Refused(r),
-            Checked::Fine {
-                own: _,
-                instructions: _,
-            } => passes::write(guide, answers, transcript),
+            Checked::Fine { own, instructions } => passes::write(
+                guide,
+                own,
+                instructions,
+                answers,
+                transcript,
+            ),
         },
     }
 }

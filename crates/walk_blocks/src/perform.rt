@@ -50,7 +50,7 @@ pub fn perform(
 {
     match head {
         Head::Input { register } => {
-            let a = lines::behind_register(line, 6);
+            let a = accepted_lines::behind_register(line, 6);
             statements::ask(out, at, registers, register, &line[a..], answers, m)
         }
         Head::Inputs { register, options } => {

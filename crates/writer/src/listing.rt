@@ -34,7 +34,7 @@ pub fn put_line(
 {
     match head {
         Head::Input { register } => {
-            let a = lines::behind_register(line, 6);
+            let a = accepted_lines::behind_register(line, 6);
             put_input(out, at, register, &line[a..], index, book, own, count)
         }
         Head::Inputs { register, options } => put_inputs(

@@ -67,7 +67,8 @@ impl Work {
         }
     }
 
-    /// The same with an output as long as the result, which walk, run and read_plate make in two passes.
+    /// The same with an output as long as the result. Where it is not sure that such an output is long enough, walk, run and
+    /// read_plate make two passes.
     pub fn exact(mut self) -> Work {
         self.room = perform(&Model, &self.case()).answer.length as usize;
         self

@@ -14,7 +14,7 @@ pub fn print_times() {
             print_row(&size, &subject.work(call));
         }
     }
-    println!("\nwith an output as long as the result, for which two passes are made");
+    println!("\nwith an output as long as the result");
     print_head();
     for size in sizes::ALL {
         let subject = (size.subject)();

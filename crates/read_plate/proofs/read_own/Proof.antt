@@ -1,6 +1,6 @@
 -- `read_own` meets its contract: the plate's refusal, or what the two passes leave.
 use native.Mathlib.Omega.{arith}
-use Rattle.read_plate.proofs.Whole.{call-plate, call-listing, listing-fits}
+use Rattle.read_plate.proofs.Whole.{call-plate, call-listing, instructions-fit}
 use borrow.Author.Needs.{needs}
 use Rattle.read_plate.proofs.read_own.Statement.{statement}
 use Rattle.read_plate.proofs.read_own.Tie as tie
@@ -17,7 +17,7 @@ enum-known-contents c = search needs
 write-requires : tie.Need-write-requires
 write-requires c κs = let read = c .before .before .before .before .before .before .before .before .before .before .read-contents .ensures in
     let holds = c .before .before .before .before .contents .given .1 in
-    (read .1 .0 _ holds, listing-fits _ _ (c .before .before .before .before .before .before .before .before .before .before .before .before .before .before .before .before .before .before .pre .0 .phrases) _ _ (read .0) _ holds (λ i. omega (arith, c .before .before .before .before .before .before .before .before .before .before .before .before .before .before .before .before .before .shared-slice-known .given i)))
+    (read .1 .0 _ holds, instructions-fit _ _ (c .before .before .before .before .before .before .before .before .before .before .before .before .before .before .before .before .before .before .pre .0 .phrases) _ _ (read .0) _ holds (λ i. omega (arith, c .before .before .before .before .before .before .before .before .before .before .before .before .before .before .before .before .before .shared-slice-known .given i)))
 
 same-length : tie.Need-same-length
 same-length c = search needs

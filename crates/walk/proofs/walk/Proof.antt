@@ -2,7 +2,6 @@
 use mathlib.Core.Path.{sym, _∙_}
 use Rattle.phrases.proofs.Answers.{answer-is}
 use Rattle.phrases.proofs.CheckedBooks.{checked-book}
-use Rattle.guide.proofs.Accepted.{accepted-clean}
 use Rattle.walk.proofs.Whole.{call-book, call-guide, call-walked}
 use borrow.Author.Needs.{needs}
 use Rattle.walk.proofs.walk.Statement.{statement}
@@ -32,11 +31,11 @@ check-requires c κs =
 enum-known-r : tie.Need-enum-known-r
 enum-known-r c = search needs
 
-enum-told-2 : tie.Need-enum-told-2
-enum-told-2 c = search needs
+enum-known-own : tie.Need-enum-known-own
+enum-known-own c = search needs
 
 write-requires : tie.Need-write-requires
-write-requires c κs = accepted-clean _ _ _ _ (sym (c .before .before .before .before .check .ensures .0) ∙ c .before .enum-told2 .given .1)
+write-requires c κs = (_, sym (c .before .before .before .before .before .check .ensures .0) ∙ c .before .before .own .given .1)
 
 returns : tie.Need-returns
 returns c =
@@ -52,10 +51,10 @@ same-length c = search needs
 
 returns-3 : tie.Need-returns-3
 returns-3 c =
-    let told = c .before .before .before .before in
+    let told = c .before .before .before .before .before in
     let n = told .before .before .before .before .before in
     let book = sym (answer-is _ _ (n .before .before .before .check-book .ensures .0)) ∙ n .enum-told .given .1 in
-    let guide = sym (told .before .before .before .check .ensures .0) ∙ told .enum-told2 .given .1 in
+    let guide = sym (told .before .before .before .check .ensures .0) ∙ told .own .given .1 in
     call-walked _ _ _ _ _ _ _ _ book guide (c .before .before .write .ensures)
 
 pub walk-spec : {M : Type 1} → statement M
@@ -69,7 +68,7 @@ walk-spec =
     slice-aggregate-check
     check-requires
     enum-known-r
-    enum-told-2
+    enum-known-own
     write-requires
     returns
     returns-2

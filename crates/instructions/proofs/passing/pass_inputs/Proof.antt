@@ -1,14 +1,15 @@
 -- `pass_inputs` meets its contract: four fields, one after the other.
 use mathlib.Core.Path.{ap, _∙_}
+use native.Mathlib.Omega.{arith}
 use borrow.Author.Needs.{needs}
 use Rattle.plate.specs.Reading.{return}
-use Rattle.fields.specs.Places.{fieldRead, endWith}
-use native.Mathlib.Omega.{arith}
-use Rattle.fields.proofs.Answers.{field-got, field-refused}
-use Rattle.fields.proofs.Onward.{then-got, then-stopped, got-good}
 use Rattle.plate.proofs.Readers.{gives-number, gives-judged}
-use Rattle.plate_texts.proofs.Ended.{ended-some, ended-stopped}
-use Rattle.instructions.proofs.FieldsRead.{options-got, options-stopped, options-refused}
+use Rattle.fields.specs.Places.{fieldRead, measured}
+use Rattle.fields.proofs.Onward.{then-got, then-stopped, got-good}
+use Rattle.fields.proofs.Answers.{field-got, field-refused}
+use Rattle.plate_texts.proofs.Ended.{measured-some, measured-stopped}
+use Rattle.plate_texts.proofs.OptionsRead.{options-read}
+use Rattle.instructions.proofs.FieldsRead.{roomOf, options-refused, inputs-sized}
 use Rattle.instructions.proofs.passing.pass_inputs.Statement.{statement}
 use Rattle.instructions.proofs.passing.pass_inputs.Tie as tie
 
@@ -22,7 +23,7 @@ enum-told : tie.Need-enum-told
 enum-told c = search needs
 
 returns : tie.Need-returns
-returns c = ap (fieldRead _) (c .enum-told .given .1) ∙ ap (endWith 0) (then-stopped _ _ _ (field-refused _ _ (c .before .before .read-plain .ensures) (c .enum-told .given .1)))
+returns c = ap (fieldRead _) (c .enum-told .given .1) ∙ ap (measured roomOf) (then-stopped _ _ _ (field-refused _ _ (c .before .before .read-plain .ensures) (c .enum-told .given .1)))
 
 pass-text-requires : tie.Need-pass-text-requires
 pass-text-requires c κs = search needs
@@ -34,7 +35,9 @@ enum-told-2 : tie.Need-enum-told-2
 enum-told-2 c = search needs
 
 returns-2 : tie.Need-returns-2
-returns-2 c = ap (fieldRead _) (c .enum-told2 .given .1) ∙ ap (endWith 0) (then-stopped _ _ _ (ended-stopped 0 _ (field-refused _ _ (c .before .before .pass-text .ensures) (c .enum-told2 .given .1)))
+returns-2 c =
+    ap (fieldRead _) (c .enum-told2 .given .1)
+    ∙ ap (measured roomOf) (then-stopped _ _ _ (measured-stopped _ _ (field-refused _ _ (c .before .before .pass-text .ensures) (c .enum-told2 .given .1)))
     ∙ then-got _ _ _ (field-got _ _ (c .before .before .before .before .before .before .read-plain .ensures) (c .before .before .before .before .first .given .1)))
 
 read-field-requires : tie.Need-read-field-requires
@@ -47,8 +50,10 @@ enum-told-3 : tie.Need-enum-told-3
 enum-told-3 c = search needs
 
 returns-3 : tie.Need-returns-3
-returns-3 c = ap (fieldRead _) (c .enum-told3 .given .1) ∙ ap (endWith 0) (then-stopped _ _ _ (options-refused _ _ (field-refused _ _ (c .before .before .read-field .ensures) (c .enum-told3 .given .1)))
-    ∙ then-got _ _ _ (ended-some 0 _ _ _ (field-got _ _ (c .before .before .before .before .before .before .pass-text .ensures) (c .before .before .before .before .second .given .1)) .1)
+returns-3 c =
+    ap (fieldRead _) (c .enum-told3 .given .1)
+    ∙ ap (measured roomOf) (then-stopped _ _ _ (options-refused _ _ (field-refused _ _ (c .before .before .read-field .ensures) (c .enum-told3 .given .1)))
+    ∙ then-got _ _ _ (measured-some _ _ _ _ (field-got _ _ (c .before .before .before .before .before .before .pass-text .ensures) (c .before .before .before .before .second .given .1)) .1)
     ∙ then-got _ _ _ (field-got _ _ (c .before .before .before .before .before .before .before .before .before .before .read-plain .ensures) (c .before .before .before .before .before .before .before .before .first .given .1)))
 
 add-pass-texts : tie.Need-add-pass-texts
@@ -57,24 +62,13 @@ add-pass-texts c = let few = got-good _ (gives-judged _ _ (gives-number 3)) (fie
 pass-texts-requires : tie.Need-pass-texts-requires
 pass-texts-requires c κs = search needs
 
-enum-known-last : tie.Need-enum-known-last
-enum-known-last c = search needs
-
-enum-told-4 : tie.Need-enum-told-4
-enum-told-4 c = search needs
-
 returns-4 : tie.Need-returns-4
-returns-4 c = let k = field-got _ _ (c .before .before .before .before .before .before .read-field .ensures) (c .before .before .before .before .third .given .1) in
-    ap (fieldRead _) (c .enum-told4 .given .1) ∙ ap (endWith 0) (then-stopped _ _ _ (options-stopped _ _ _ _ k (field-refused _ _ (c .before .before .pass-texts .ensures) (c .enum-told4 .given .1)))
-    ∙ then-got _ _ _ (ended-some 0 _ _ _ (field-got _ _ (c .before .before .before .before .before .before .before .before .before .before .pass-text .ensures) (c .before .before .before .before .before .before .before .before .second .given .1)) .1)
-    ∙ then-got _ _ _ (field-got _ _ (c .before .before .before .before .before .before .before .before .before .before .before .before .before .before .read-plain .ensures) (c .before .before .before .before .before .before .before .before .before .before .before .before .first .given .1)))
-
-returns-5 : tie.Need-returns-5
 unfolding return
-returns-5 c = let k = field-got _ _ (c .before .before .before .before .before .before .before .read-field .ensures) (c .before .before .before .before .before .third .given .1) in
-    ap (endWith 0) (then-got _ _ _ (options-got _ _ _ _ k _ _ (field-got _ _ (c .before .before .before .pass-texts .ensures) (c .before .last .given .1)))
-    ∙ then-got _ _ _ (ended-some 0 _ _ _ (field-got _ _ (c .before .before .before .before .before .before .before .before .before .before .before .pass-text .ensures) (c .before .before .before .before .before .before .before .before .before .second .given .1)) .1)
-    ∙ then-got _ _ _ (field-got _ _ (c .before .before .before .before .before .before .before .before .before .before .before .before .before .before .before .read-plain .ensures) (c .before .before .before .before .before .before .before .before .before .before .before .before .before .first .given .1)))
+returns-4 c =
+    let t = measured-some _ _ _ _ (field-got _ _ (c .before .before .before .before .before .before .before .before .pass-text .ensures) (c .before .before .before .before .before .before .second .given .1)) in
+    let k = field-got _ _ (c .before .before .before .before .read-field .ensures) (c .before .before .third .given .1) in
+    c .pass-texts .ensures ∙ ap (measured _) (options-read _ _ _ _ k) ∙ inputs-sized _ _ _ _ _ (t .2)
+    ∙ ap (measured roomOf) (then-got _ _ _ (t .1) ∙ then-got _ _ _ (field-got _ _ (c .before .before .before .before .before .before .before .before .before .before .before .before .read-plain .ensures) (c .before .before .before .before .before .before .before .before .before .before .first .given .1)))
 
 pub pass-inputs-spec : {M : Type 1} → statement M
 pass-inputs-spec =
@@ -94,7 +88,4 @@ pass-inputs-spec =
     returns-3
     add-pass-texts
     pass-texts-requires
-    enum-known-last
-    enum-told-4
-    returns-4
-    returns-5)
+    returns-4)

@@ -19,7 +19,7 @@ use Rattle.plate_texts.proofs.copying.copy_texts.Tie as tie
 
 abbrev Inv-loop : tie.InvT-loop
 Inv-loop plate at n index book own count out₀ from end₀ bit₀ left₀ out end bit left =
-    Passing (λ j. reader.text (phrasesIn book own count)) (placeAt plate at) n left (placeAt plate bit)
+    Passing (λ j. reader.text (phrasesIn book own count)) (placeAt plate at) n (λ ts. n) left (placeAt plate bit) (λ ts. n)
     × Known (many (λ j. reader.text (phrasesIn book own count)) left (placeAt plate bit))
     × Left (λ j. reader.text (phrasesIn book own count)) (placeAt plate at) n from out₀ left (placeAt plate bit) end out
     × (length out ≡ length out₀) × (end ≤ 18446744073709551615)
@@ -28,7 +28,7 @@ abbrev μ-loop : tie.MeasureT-loop
 μ-loop plate at n index book own count out₀ from end₀ bit₀ left₀ out end bit left = left
 
 loop-holds : tie.Need-loop-holds Inv-loop μ-loop
-loop-holds c = (passing-start _ _ _, c .before .before .before .before .before .pre .1, left-all _ _ _ _ _, refl, omega arith)
+loop-holds c = (passing-start _ _ _ _ _ (λ ts. refl), c .before .before .before .before .before .pre .1, left-all _ _ _ _ _, refl, omega arith)
 
 put-byte-requires : tie.Need-put-byte-requires Inv-loop μ-loop
 put-byte-requires c κs = search needs
@@ -46,7 +46,7 @@ loop-again : tie.Need-loop-again Inv-loop μ-loop
 loop-again c = let l = c .before .before .before .before .before .before .before .before .before .loop in
     let e = c .before .before .copy-text .ensures in
     let t = ended-some 0 0 _ _ (e .1) in (
-      passing-more _ _ (l .inv .0) _ _ (search needs) (t .1),
+      passing-more _ _ (l .inv .0) _ _ _ (search needs) (t .1) (λ ts. refl),
       known-others _ _ _ (l .inv .1) (search needs) (t .1),
       left-more _ _ (l .inv .2) (search needs) (l .inv .1) (omega arith) (c .before .before .before .before .before .before .put-byte .ensures) (e .0) (e .1),
       search needs,
@@ -59,7 +59,7 @@ same-length c = search needs
 returns : tie.Need-returns Inv-loop μ-loop
 returns c = (
   left-none _ (c .before .loop .left) (c .before .loop .inv .2) (omega arith) (c .before .loop .inv .4),
-  passing-end _ (c .before .loop .left) (c .before .loop .inv .0) (omega arith),
+  passing-end _ (c .before .loop .left) (c .before .loop .inv .0) (omega arith) refl,
 )
 
 pub copy-texts-spec : {M : Type 1} → statement M

@@ -4,13 +4,15 @@ use mathlib.Core.Path.{_≡_, refl, sym, ap, _∙_}
 use native.Mathlib.Omega.{arith}
 use lib.ListN.{length}
 use borrow.Author.Needs.{needs}
+use Rattle.output.specs.Pour.{upTo}
 use Rattle.phrases.specs.Lookup.{bookTexts, ownTexts}
 use Rattle.plate.specs.Reading.{got}
-use Rattle.fields.specs.Places.{placeAt, endWith, fieldRead}
-use Rattle.fields.proofs.Answers.{answered, refused}
+use Rattle.fields.specs.Places.{placeAt, measured, fieldRead}
+use Rattle.fields.proofs.Answers.{answered, refused, field-got}
+use Rattle.plate_texts.proofs.Ended.{measured-is}
 use Rattle.plate_texts.specs.Sources.{source, sourceRead, sourceRefusal}
 use Rattle.plate_texts.proofs.SourceRead.{source-near}
-use Rattle.plate_texts.proofs.PhraseRead.{source-of, source-stopped, source-good, phrase-read, phrase-ended}
+use Rattle.plate_texts.proofs.PhraseRead.{phraseRead, source-of, source-stopped, source-good, place-good, phrase-read}
 use Rattle.plate_texts.proofs.phrase_place.pass_phrase.Statement.{statement}
 use Rattle.plate_texts.proofs.phrase_place.pass_phrase.Tie as tie
 
@@ -44,7 +46,7 @@ returns : tie.Need-returns
 returns c =
     let b = c .before .before .before .before .before .before .before .before .before in
     let e = source-of (b .pre .0) (b .args .at) _ (c .before .before .before .read-source .result) (c .before .before .before .before .count-of .ensures) (c .before .before .before .read-source .ensures) in
-    ap (endWith 0) (source-stopped (b .pre .0) (b .args .at)
+    ap (measured (λ t. upTo (b .args .front + length t))) (source-stopped (b .pre .0) (b .args .at)
     (refused (sourceRead (b .args .plate .now) (b .args .at)) sourceRefusal e (c .before .enum-told .given .1) (c .refusal .ensures) refl))
 
 read-place-requires : tie.Need-read-place-requires
@@ -66,18 +68,32 @@ returns-2 c =
     let b = c .before .before .before .before .before .before .before .before .before .before .before .before in
     let e = source-read (c .before .before .before .before) in
     let f = c .before .before .read-place .result in
-    ap (fieldRead (b .args .plate .now)) (c .enum-told2 .given .1) ∙ ap (λ f. endWith 0 (fieldRead (b .args .plate .now) f)) (sym (c .enum-told2 .given .1))
-    ∙ phrase-ended (b .args .plate .now) (b .args .book .now) (b .args .own .now) f (c .before .before .before .before .source .given .0 .0)
-    ∙ ap (endWith 0) (phrase-read (b .pre .0) (b .args .at) _ _ _ e (source-good (b .pre .0) (b .args .at) _ _ _ e (b .pre .1)) f (c .before .before .read-place .ensures))
+    let isOwn = c .before .before .before .before .source .given .0 .0 in
+    ap (fieldRead (b .args .plate .now)) (c .enum-told2 .given .1)
+    ∙ ap (λ f. measured (λ t. upTo (b .args .front + length t)) (phraseRead (b .args .plate .now) (b .args .book .now) (b .args .own .now) isOwn f)) (sym (c .enum-told2 .given .1))
+    ∙ ap (measured (λ t. upTo (b .args .front + length t))) (phrase-read (b .pre .0) (b .args .at) _ _ _ e (source-good (b .pre .0) (b .args .at) _ _ _ e (b .pre .1)) f (c .before .before .read-place .ensures))
+
+phrase-text-requires : tie.Need-phrase-text-requires
+phrase-text-requires c κs =
+    let b = c .before .before .before .before .before .before .before .before .before .before .before .before .before in
+    let e = source-read (c .before .before .before .before .before) in
+    let l = b .pre .0 .listed in
+    let good = place-good (b .pre .0) (b .args .at) _ _ _ e (source-good (b .pre .0) (b .args .at) _ _ _ e (b .pre .1)) _ _
+    (field-got _ _ (c .before .before .before .read-place .ensures) (c .before .field .given .1)) in
+    (l .indexed, good .0, λ z. l .numbers .each _ (good .1 z))
+
+sum-requires : tie.Need-sum-requires
+sum-requires c κs = search needs
 
 returns-3 : tie.Need-returns-3
 returns-3 c =
-    let b = c .before .before .before .before .before .before .before .before .before .before .before .before .before in
-    let e = source-read (c .before .before .before .before .before) in
-    let f = c .before .before .before .read-place .result in
-    ap (λ f. endWith 0 (fieldRead (b .args .plate .now) f)) (sym (c .before .field .given .1))
-    ∙ phrase-ended (b .args .plate .now) (b .args .book .now) (b .args .own .now) f (c .before .before .before .before .before .source .given .0 .0)
-    ∙ ap (endWith 0) (phrase-read (b .pre .0) (b .args .at) _ _ _ e (source-good (b .pre .0) (b .args .at) _ _ _ e (b .pre .1)) f (c .before .before .before .read-place .ensures))
+    let b = c .before .before .before .before .before .before .before .before .before .before .before .before .before .before .before in
+    let e = source-read (c .before .before .before .before .before .before .before) in
+    let f = c .before .before .before .before .before .read-place .result in
+    let isOwn = c .before .before .before .before .before .before .before .source .given .0 .0 in
+    measured-is (λ t. upTo (b .args .front + length t)) _ (c .sum .ensures ∙ ap (λ t. upTo (b .args .front + length t)) (c .before .phrase-text .ensures))
+    (ap (phraseRead (b .args .plate .now) (b .args .book .now) (b .args .own .now) isOwn) (sym (c .before .before .before .field .given .1))
+    ∙ phrase-read (b .pre .0) (b .args .at) _ _ _ e (source-good (b .pre .0) (b .args .at) _ _ _ e (b .pre .1)) f (c .before .before .before .before .before .read-place .ensures))
 
 pub pass-phrase-spec : {M : Type 1} → statement M
 pass-phrase-spec =
@@ -93,4 +109,6 @@ pass-phrase-spec =
     enum-known-field
     enum-told-2
     returns-2
+    phrase-text-requires
+    sum-requires
     returns-3)

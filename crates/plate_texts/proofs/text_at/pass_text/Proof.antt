@@ -4,16 +4,18 @@ use mathlib.Core.Path.{_≡_, sym, ap, _∙_}
 use native.Mathlib.Omega.{arith}
 use lib.ListN.{length}
 use borrow.Author.Needs.{needs}
+use Rattle.output.specs.Pour.{upTo}
 use Rattle.phrases.specs.Lookup.{bookTexts, ownTexts, phrasesIn}
 use Rattle.causes.specs.declared.Cause.the-variants.{Unused}
 use Rattle.plate.specs.Reading.{number, judged}
-use Rattle.fields.specs.Places.{placeAt, fieldRead, refusalOf, sizeRead, untilETX, valuesOf, endWith}
+use Rattle.fields.specs.Places.{placeAt, fieldRead, refusalOf, sizeRead, untilETX, valuesOf, measured}
 use Rattle.plate.specs.Plate.{spelled, phrase}
 use Rattle.plate.specs.Plate as reader
 use Rattle.fields.proofs.Onward.{then-got, then-stopped, judged-stopped}
 use Rattle.fields.proofs.Answers.{answered, field-got, field-refused, size-got}
 use Rattle.fields.proofs.Copies.{length-characters}
 use Rattle.plate_characters.proofs.TextCopy.{got-known}
+use Rattle.plate_texts.proofs.Ended.{measured-is}
 use Rattle.plate_texts.proofs.NumberEnds.{judged-behind, judged-room}
 use Rattle.plate_texts.proofs.PhraseRead.{book-count}
 use Rattle.plate_texts.proofs.Spelled.{sized-few, none-there, spelled-got, spelled-sized, spelled-phrase}
@@ -64,7 +66,7 @@ enum-told c = search needs
 returns : tie.Need-returns
 unfolding reader.text
 returns c = ap (fieldRead (c .before .before .before .before .before .before .before .before .before .args .plate .now)) (c .enum-told .given .1)
-    ∙ ap (endWith 0) (then-stopped _ _ _ (field-refused _ _ (code-read (c .before .before)) (c .enum-told .given .1)))
+    ∙ ap (measured (λ t. upTo (c .before .before .before .before .before .before .before .before .before .args .front + length t))) (then-stopped _ _ _ (field-refused _ _ (code-read (c .before .before)) (c .enum-told .given .1)))
 
 pass-phrase-requires : tie.Need-pass-phrase-requires
 pass-phrase-requires c κs =
@@ -77,7 +79,7 @@ unfolding reader.text
 returns-2 c =
     let code = field-got _ _ (code-read (c .before .before .before .before .before)) (c .before .before .before .field .given .1) in
     c .pass-phrase .ensures
-    ∙ ap (endWith 0) (ap (phrase _ _) (sym (judged-behind _ _ _ _ _ _ _ code)) ∙ by-phrase _ _ _ (c .before .if1 .taken) ∙ then-got _ _ _ code)
+    ∙ ap (measured (λ t. upTo (c .before .before .before .before .before .before .before .before .before .before .before .before .args .front + length t))) (ap (phrase _ _) (sym (judged-behind _ _ _ _ _ _ _ code)) ∙ by-phrase _ _ _ (c .before .if1 .taken) ∙ then-got _ _ _ code)
 
 read-size-requires : tie.Need-read-size-requires
 read-size-requires c κs = search needs
@@ -93,18 +95,22 @@ unfolding spelled
 returns-3 c =
     let b = c .before .before .before .before .before .before .before .before .before .before .before .before .before .before in
     ap (fieldRead (b .args .plate .now)) (c .enum-told2 .given .1)
-    ∙ ap (endWith 0) (judged-stopped untilETX _ _ _ _ (answered (sizeRead (b .args .plate .now) _) refusalOf (c .before .before .read-size .ensures) (c .enum-told2 .given .1))
+    ∙ ap (measured (λ t. upTo (c .before .before .before .before .before .before .before .before .before .before .before .before .before .before .args .front + length t))) (judged-stopped untilETX _ _ _ _ (answered (sizeRead (b .args .plate .now) _) refusalOf (c .before .before .read-size .ensures) (c .enum-told2 .given .1))
     ∙ spelled-there (c .before .before .before))
 
 is-sized-requires : tie.Need-is-sized-requires
 is-sized-requires c κs = search needs
 
+sum-requires : tie.Need-sum-requires
+sum-requires c κs = search needs
+
 returns-4 : tie.Need-returns-4
 returns-4 c =
-    let b = c .before .before .before .before .before .before .before .before .before .before .before .before .before .before .before .before .before .before in
-    let none = none-there (b .args .index .now) _ (b .args .own .now) (b .args .count) _ (b .pre .listed .indexed) (omega (arith, c .before .before .before .before .before .before .before .before .before .before .before .before .before .count-of .ensures)) in
-    ap (endWith 0) (spelled-got _ _ _ _ (c .before .before .is-sized .ensures) _ _ (size-got _ _ _ (c .before .before .before .before .before .before .read-size .ensures) (c .before .before .before .before .characters .given .1))
-    (c .before .if2 .taken) none ∙ spelled-there (c .before .before .before .before .before .before .before))
+    let b = c .before .before .before .before .before .before .before .before .before .before .before .before .before .before .before .before .before .before .before in
+    let none = none-there (b .args .index .now) _ (b .args .own .now) (b .args .count) _ (b .pre .listed .indexed) (omega (arith, c .before .before .before .before .before .before .before .before .before .before .before .before .before .before .count-of .ensures)) in
+    measured-is (λ t. upTo (b .args .front + length t)) _ (c .sum .ensures ∙ ap (λ n. upTo (b .args .front + n)) (sym (length-characters _ _)))
+    (spelled-got _ _ _ _ (c .before .before .before .is-sized .ensures) _ _ (size-got _ _ _ (c .before .before .before .before .before .before .before .read-size .ensures) (c .before .before .before .before .before .characters .given .1))
+    (c .before .before .if2 .taken) none ∙ spelled-there (c .before .before .before .before .before .before .before .before))
 
 is-no-phrase-requires : tie.Need-is-no-phrase-requires
 is-no-phrase-requires c κs =
@@ -112,19 +118,23 @@ is-no-phrase-requires c κs =
     let e = size-got _ _ _ (c .before .before .before .before .before .before .read-size .ensures) (c .before .before .before .before .characters .given .1) in
     (b .pre .short, b .pre .listed .indexed, b .pre .listed .numbers, got-known e, sym (length-characters _ _) ∙ ap (λ m. length (valuesOf m)) e, sized-few (b .args .plate .now) (b .args .at) _ _ (c .before .before .is-sized .ensures) (c .before .if2 .taken))
 
+sum-requires-2 : tie.Need-sum-requires-2
+sum-requires-2 c κs = search needs
+
 returns-5 : tie.Need-returns-5
 returns-5 c =
-    ap (endWith 0) (spelled-got _ _ _ _ (c .before .before .before .before .is-sized .ensures) _ _ (size-got _ _ _ (c .before .before .before .before .before .before .before .before .read-size .ensures) (c .before .before .before .before .before .before .characters .given .1))
-    (c .before .before .before .if2 .taken) (sym (c .before .is-no-phrase .ensures) ∙ c .if4 .taken) ∙ spelled-there (c .before .before .before .before .before .before .before .before .before))
+    measured-is (λ t. upTo (c .before .before .before .before .before .before .before .before .before .before .before .before .before .before .before .before .before .before .before .before .before .args .front + length t)) _ (c .sum2 .ensures ∙ ap (λ n. upTo (c .before .before .before .before .before .before .before .before .before .before .before .before .before .before .before .before .before .before .before .before .before .args .front + n)) (sym (length-characters _ _)))
+    (spelled-got _ _ _ _ (c .before .before .before .before .before .is-sized .ensures) _ _ (size-got _ _ _ (c .before .before .before .before .before .before .before .before .before .read-size .ensures) (c .before .before .before .before .before .before .before .characters .given .1))
+    (c .before .before .before .before .if2 .taken) (sym (c .before .before .is-no-phrase .ensures) ∙ c .before .if4 .taken) ∙ spelled-there (c .before .before .before .before .before .before .before .before .before .before))
 
 returns-6 : tie.Need-returns-6
 returns-6 c =
-    ap (endWith 0) (spelled-phrase _ _ _ _ (size-got _ _ _ (c .before .before .before .before .before .before .before .before .read-size .ensures) (c .before .before .before .before .before .before .characters .given .1))
+    ap (measured (λ t. upTo (c .before .before .before .before .before .before .before .before .before .before .before .before .before .before .before .before .before .before .before .before .args .front + length t))) (spelled-phrase _ _ _ _ (size-got _ _ _ (c .before .before .before .before .before .before .before .before .read-size .ensures) (c .before .before .before .before .before .before .characters .given .1))
     (sym (c .before .is-no-phrase .ensures) ∙ c .if4 .left) ∙ spelled-there (c .before .before .before .before .before .before .before .before .before))
 
 returns-7 : tie.Need-returns-7
 returns-7 c =
-    ap (endWith 0) (spelled-sized _ _ _ _ (c .before .is-sized .ensures) _ _ (size-got _ _ _ (c .before .before .before .before .before .read-size .ensures) (c .before .before .before .characters .given .1))
+    ap (measured (λ t. upTo (c .before .before .before .before .before .before .before .before .before .before .before .before .before .before .before .before .before .args .front + length t))) (spelled-sized _ _ _ _ (c .before .is-sized .ensures) _ _ (size-got _ _ _ (c .before .before .before .before .before .read-size .ensures) (c .before .before .before .characters .given .1))
     (c .if2 .left) ∙ spelled-there (c .before .before .before .before .before .before))
 
 pub pass-text-spec : {M : Type 1} → statement M
@@ -145,8 +155,10 @@ pass-text-spec =
     enum-told-2
     returns-3
     is-sized-requires
+    sum-requires
     returns-4
     is-no-phrase-requires
+    sum-requires-2
     returns-5
     returns-6
     returns-7)

@@ -5,6 +5,15 @@ use borrow.Author.Needs.{needs}
 use Rattle.read_plate.proofs.passes.write.Statement.{statement}
 use Rattle.read_plate.proofs.passes.write.Tie as tie
 
+slice-aggregate-put-phrases : tie.Need-slice-aggregate-put-phrases
+slice-aggregate-put-phrases c = search needs
+
+put-phrases-requires : tie.Need-put-phrases-requires
+put-phrases-requires c κs = c .before .before .before .before .before .before .pre .0 .lent .listed
+
+sum-requires : tie.Need-sum-requires
+sum-requires c κs = search needs
+
 produce-requires : tie.Need-produce-requires
 produce-requires c κs = search needs
 
@@ -12,7 +21,9 @@ same-length : tie.Need-same-length
 same-length c = search needs
 
 returns : tie.Need-returns
-returns c = straight _ _ _ _ (c .before .before .produce .ensures) (c .before .before .before .before .before .before .before .before .before .before .pre .1) (c .before .before .before .before .if1 .taken) (omega arith)
+returns c =
+    let s = c .before .before .before .before .before .before .before .before .before .before .before .before .before .before in
+    straight _ _ _ _ _ (s .pre .0) (s .pre .1) _ _ _ (c .before .before .before .before .before .before .before .put-phrases .ensures) _ (c .before .before .before .before .before .sum .ensures) _ _ _ (c .before .before .produce .ensures) (c .before .before .before .before .if1 .taken) (omega arith)
 
 slice-aggregate-produce : tie.Need-slice-aggregate-produce
 slice-aggregate-produce c = search needs
@@ -36,6 +47,9 @@ pub write-spec : {M : Type 1} → statement M
 write-spec =
     tie.close
     (tie.spec
+    slice-aggregate-put-phrases
+    put-phrases-requires
+    sum-requires
     produce-requires
     same-length
     returns

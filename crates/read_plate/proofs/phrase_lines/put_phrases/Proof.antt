@@ -1,59 +1,36 @@
--- `put_phrases` meets its contract. The loop's invariant: the phrases of the lines from a on make all of them.
+-- `put_phrases` meets its contract. The loop's invariant: the phrases from n on make all of them.
 use borrow.Author.Needs.{needs}
-use Prim.Native.Nat.{_+_, _-_, _≤_}
-use mathlib.Core.Path.{_≡_, refl, sym, ap}
-use mathlib.Core.List.{map}
+use Prim.Native.Nat.{_-_, _≤_}
+use mathlib.Core.Path.{_≡_, refl, _∙_}
+use mathlib.Core.List.{[], map}
+use mathlib.Core.Bool.{true≢false}
+use native.Mathlib.Numerals.{add-one}
 use native.Mathlib.Omega.{arith}
-use lib.ListN.{length}
+use lib.ListN.{length, drop, drop-of-length-le}
+use lib.Seq.{drop-cons}
 use Rattle.output.specs.Pour.{poured}
 use Rattle.phrases.specs.Lookup.{ownTexts}
-use Rattle.phrases.proofs.FirstLines.{ownFrom, own-whole, own-end, own-none, own-next}
+use Rattle.phrases.proofs.Texts.{phrase-in-own}
 use Rattle.listing.specs.Listing.{phraseFields, linesText}
 use Rattle.listing_lines.proofs.Pieces.{LeftOf, lines-pieces, of-next, of-end}
 use Rattle.read_plate.proofs.phrase_lines.put_phrases.Statement.{statement}
 use Rattle.read_plate.proofs.phrase_lines.put_phrases.Tie as tie
 
 abbrev Inv-loop : tie.InvT-loop
-Inv-loop own count out₀ at end₀ n₀ a₀ out end n a = LeftOf (lines-pieces phraseFields) (ownFrom count n a own) end out
-    (poured at (linesText (map phraseFields (ownTexts count own))) out₀) × (n ≤ count) × (a ≤ length own + 1) × (length out ≡ length out₀)
+Inv-loop index book own count out₀ at end₀ n₀ out end n = LeftOf (lines-pieces phraseFields) (drop n (ownTexts count own)) end out
+    (poured at (linesText (map phraseFields (ownTexts count own))) out₀) × (n ≤ count) × (length out ≡ length out₀)
 
 abbrev μ-loop : tie.MeasureT-loop
-μ-loop own count out₀ at end₀ n₀ a₀ out end n a = count - n
+μ-loop index book own count out₀ at end₀ n₀ out end n = count - n
 
 loop-holds : tie.Need-loop-holds Inv-loop μ-loop
-loop-holds c = let a = c .before .before .args in (
-  record { written = ap (λ ts. poured (a .at) (linesText (map phraseFields ts)) (a .out .now)) (sym (own-whole (a .count) (a .own .now))); counted = omega arith },
-  search needs,
-  search needs,
-  refl,
-)
+loop-holds c = (record { written = refl; counted = omega arith }, search needs, refl)
 
-same-length : tie.Need-same-length Inv-loop μ-loop
-same-length c = search needs
-
-returns : tie.Need-returns Inv-loop μ-loop
-returns c = of-end (lines-pieces phraseFields) (c .before .before .loop .inv .0) (own-end _ _ _ _ (c .if1 .taken))
-
-find-requires : tie.Need-find-requires Inv-loop μ-loop
-find-requires c κs = search needs
-
-sub-part : tie.Need-sub-part Inv-loop μ-loop
-sub-part c = search needs
-
-part-part-start : tie.Need-part-part-start Inv-loop μ-loop
-part-part-start c = search needs
-
-part-part-end : tie.Need-part-part-end Inv-loop μ-loop
-part-part-end c = search needs
-
-part-requires : tie.Need-part-requires Inv-loop μ-loop
-part-requires c κs = search needs
+phrase-text-requires : tie.Need-phrase-text-requires Inv-loop μ-loop
+phrase-text-requires c κs = let l = c .before .before .before .before .before .before .pre in (l .indexed, λ z. absurd (true≢false z), λ z. l .numbers .each _ (c .loop-test .taken))
 
 phrase-at-requires : tie.Need-phrase-at-requires Inv-loop μ-loop
 phrase-at-requires c κs = search needs
-
-add-a : tie.Need-add-a Inv-loop μ-loop
-add-a c = search needs
 
 add-n : tie.Need-add-n Inv-loop μ-loop
 add-n c = search needs
@@ -62,19 +39,24 @@ loop-less : tie.Need-loop-less Inv-loop μ-loop
 loop-less c = search needs
 
 loop-again : tie.Need-loop-again Inv-loop μ-loop
-loop-again c = (
-  of-next (lines-pieces phraseFields) (c .before .before .before .before .before .before .before .before .before .loop .inv .0)
-      (own-next _ _ _ _ _ (c .before .before .before .before .before .before .before .before .loop-test .taken) (c .before .before .before .before .before .before .before .if1 .left) (c .before .before .before .before .before .before .find .ensures .0)) (rw (c .before .before .before .before .part .ensures) at (c .before .before .phrase-at .ensures)) (omega arith),
-  search needs,
-  search needs,
-  search needs,
-)
+loop-again c =
+    let s = c .before .before .before .before .before .before .before .before .before .before .before in
+    let n = c .before .before .before .before .before .before .loop .n in
+    let text = c .before .before .before .before .phrase-text .ensures ∙ phrase-in-own (s .args .book .now) (s .args .own .now) n (s .args .count) (c .before .before .before .before .before .loop-test .taken) in
+    let first = drop-cons (ownTexts (s .args .count) (s .args .own .now)) n [] (omega (arith, s .pre .numbers .whole, c .before .before .before .before .before .loop-test .taken)) in (
+      rw add-one (of-next (lines-pieces phraseFields) (c .before .before .before .before .before .before .loop .inv .0) first (rw text at (c .before .before .phrase-at .ensures)) (omega arith)),
+      search needs,
+      search needs,
+    )
 
-same-length-2 : tie.Need-same-length-2 Inv-loop μ-loop
-same-length-2 c = search needs
+same-length : tie.Need-same-length Inv-loop μ-loop
+same-length c = search needs
 
-returns-2 : tie.Need-returns-2 Inv-loop μ-loop
-returns-2 c = of-end (lines-pieces phraseFields) (c .before .loop .inv .0) (own-none _ _ _ _ (c .loop-test .left))
+returns : tie.Need-returns Inv-loop μ-loop
+returns c =
+    let s = c .before .before .before .before .before .before in
+    let none = drop-of-length-le (ownTexts (s .args .count) (s .args .own .now)) {i = c .before .loop .n} (omega (arith, s .pre .numbers .whole)) in
+    of-end (lines-pieces phraseFields) (c .before .loop .inv .0) none
 
 pub put-phrases-spec : {M : Type 1} → statement M
 put-phrases-spec =
@@ -83,17 +65,10 @@ put-phrases-spec =
     Inv-loop
     μ-loop
     loop-holds
-    same-length
-    returns
-    find-requires
-    sub-part
-    part-part-start
-    part-part-end
-    part-requires
+    phrase-text-requires
     phrase-at-requires
-    add-a
     add-n
     loop-less
     loop-again
-    same-length-2
-    returns-2)
+    same-length
+    returns)

@@ -4,7 +4,7 @@ use borrow.Author.Needs.{needs}
 use Rattle.fields.proofs.Answers.{field-got, field-stopped}
 use Rattle.reader.specs.Holding.{programAt}
 use Rattle.reader.proofs.OwnAnswers.{none-stands, these-stand}
-use Rattle.reader.proofs.WholePlate.{count-stopped, few-instructions, instructions-stopped, instructions-there, rest-filled, rest-not-filled}
+use Rattle.reader.proofs.WholePlate.{count-stopped, few-instructions, instructions-stopped, instructions-counted, instructions-there, rest-filled, rest-not-filled}
 use Rattle.reader.proofs.whole.read_rest.Statement.{statement}
 use Rattle.reader.proofs.whole.read_rest.Tie as tie
 
@@ -62,6 +62,7 @@ returns-3 c =
           (record {
             lent = c .before .before .before .before .before .before .before .before .before .before .before .before .before .before .pre;
             few = few-instructions _ _ _ n;
+            counted = instructions-counted _ _ _ _ _ n _ _ is;
             whole = instructions-there _ _ _ _ _ n _ _ is;
           }),
     )

@@ -9,8 +9,17 @@ use Rattle.run.proofs.passes.write.Tie as tie
 see-answers-requires : tie.Need-see-answers-requires
 see-answers-requires c κs = search needs
 
-mul-if1 : tie.Need-mul-if1
-mul-if1 c = omega (arith, c .before .before .before .before .before .before .pre .stands .few)
+mul-sum : tie.Need-mul-sum
+mul-sum c = omega arith
+
+sum-requires : tie.Need-sum-requires
+sum-requires c κs = search needs
+
+mul-if2 : tie.Need-mul-if2
+mul-if2 c = omega (arith, c .before .before .before .before .before .before .before .before .pre .stands .few)
+
+add-if2 : tie.Need-add-if2
+add-if2 c = omega (arith, c .before .before .before .before .before .before .before .before .pre .stands .few, c .before .before .before .before .before .before .before .before .good)
 
 produce-requires : tie.Need-produce-requires
 produce-requires c κs = search needs
@@ -24,8 +33,8 @@ same-length c = search needs
 returns : tie.Need-returns
 returns c =
     rw (c .report-of .ensures)
-    (straight _ _ _ _ _ (c .before .before .before .before .before .before .before .before .before .before .before .before .pre) (λ i. omega (arith, c .before .before .before .before .before .before .before .before .before .before .before .shared-slice-known .given i)) _ (c .before .before .before .before .before .before .see-answers .ensures) _ _ _ _
-    (c .before .before .before .produce .ensures .1) (c .before .before .before .before .before .if1 .taken) (omega (arith, c .before .before .before .before .before .before .before .before .before .before .before .before .good)))
+    (straight _ _ _ _ _ (c .before .before .before .before .before .before .before .before .before .before .before .before .before .before .pre) _ (c .before .before .before .before .before .before .before .before .see-answers .ensures) _ _ _ _ _ (c .before .before .before .produce .ensures .1) (c .before .before .before .before .before .before .sum .ensures) (c .before .before .before .before .before .if2 .taken)
+    (omega (arith, c .before .before .before .before .before .before .before .before .before .before .before .before .before .before .good)))
 
 slice-aggregate-produce : tie.Need-slice-aggregate-produce
 slice-aggregate-produce c = search needs
@@ -34,7 +43,7 @@ produce-requires-2 : tie.Need-produce-requires-2
 produce-requires-2 c κs = search needs
 
 returns-2 : tie.Need-returns-2
-returns-2 c = too-short _ _ _ _ _ _ (c .before .before .produce2 .ensures .1) _ (c .if2 .taken)
+returns-2 c = too-short _ _ _ _ _ _ (c .before .before .produce2 .ensures .1) _ (c .if3 .taken)
 
 produce-requires-3 : tie.Need-produce-requires-3
 produce-requires-3 c κs = search needs
@@ -48,14 +57,17 @@ same-length-2 c = search needs
 returns-3 : tie.Need-returns-3
 returns-3 c =
     rw (c .report-of2 .ensures)
-    (second _ _ _ _ _ _ _ _ _ _ (c .before .before .before .before .before .before .before .produce2 .ensures .1) (c .before .before .before .produce3 .ensures .1) (c .before .before .before .before .before .if2 .left) (omega (arith, c .before .before .before .before .before .before .before .before .before .before .before .before .before .before .before .before .good)))
+    (second _ _ _ _ _ _ _ _ _ _ (c .before .before .before .before .before .before .before .produce2 .ensures .1) (c .before .before .before .produce3 .ensures .1) (c .before .before .before .before .before .if3 .left) (omega (arith, c .before .before .before .before .before .before .before .before .before .before .before .before .before .before .before .before .good)))
 
 pub write-spec : {M : Type 1} → statement M
 write-spec =
     tie.close
     (tie.spec
     see-answers-requires
-    mul-if1
+    mul-sum
+    sum-requires
+    mul-if2
+    add-if2
     produce-requires
     report-of-requires
     same-length

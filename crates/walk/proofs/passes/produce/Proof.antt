@@ -13,13 +13,15 @@ fresh-requires : tie.Need-fresh-requires
 fresh-requires c κs = search needs
 
 block-requires : tie.Need-block-requires
-block-requires c κs = (search needs, (let z = fresh-steps _ (c .fresh .ensures) in omega arith), c .before .before .before .before .before .pre)
+block-requires c κs = (search needs, (let z = fresh-steps _ (c .fresh .ensures) in omega arith), c .before .before .before .before .before .pre .2)
 
 same-length : tie.Need-same-length
 same-length c = search needs
 
 returns : tie.Need-returns
-returns c = (_, text-laid _ _ _ _ _ _ _ _ (c .before .before .before .before .fresh .ensures _) (c .before .before .before .block .ensures .0))
+returns c =
+    let walked = c .before .before .before in
+    (_, text-laid _ _ _ _ _ _ _ _ _ (walked .block .ensures .0) (walked .before .before .before .before .before .before .pre .0) (walked .before .fresh .ensures _))
 
 pub produce-spec : {M : Type 1} → statement M
 produce-spec = tie.close (tie.spec add-block fresh-requires block-requires same-length returns)

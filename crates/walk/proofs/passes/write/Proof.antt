@@ -1,16 +1,29 @@
 -- `write` meets its contract: the whole transcript where the buffer is surely long enough; else 11 where it is too short, and else the whole.
 use native.Mathlib.Omega.{arith}
 use Rattle.machine.proofs.Passes.{too-short}
+use Rattle.walk.proofs.Counted.{few-counted, counted-clean}
 use Rattle.walk.proofs.Rooms.{text-fits, text-ends, text-written}
 use borrow.Author.Needs.{needs}
 use Rattle.walk.proofs.passes.write.Statement.{statement}
 use Rattle.walk.proofs.passes.write.Tie as tie
+
+behind-phrases-requires : tie.Need-behind-phrases-requires
+behind-phrases-requires c κs = counted-clean _ _ _ (c .before .before .pre)
+
+sub-if2 : tie.Need-sub-if2
+sub-if2 c = search needs
 
 mul-if2 : tie.Need-mul-if2
 mul-if2 c = search needs
 
 add-if2 : tie.Need-add-if2
 add-if2 c = search needs
+
+mul-if2-2 : tie.Need-mul-if2-2
+mul-if2-2 c = omega (arith, few-counted _ _ _ (c .before .before .before .before .pre))
+
+add-if2-2 : tie.Need-add-if2-2
+add-if2-2 c = omega (arith, few-counted _ _ _ (c .before .before .before .before .pre))
 
 see-answers-requires : tie.Need-see-answers-requires
 see-answers-requires c κs = search needs
@@ -25,7 +38,10 @@ same-length : tie.Need-same-length
 same-length c = search needs
 
 returns : tie.Need-returns
-returns c = text-written _ _ _ _ _ _ (c .before .before .before .produce .ensures .1) _ (c .report-of .ensures) (text-fits _ _ _ _ _ _ (c .before .before .before .produce .ensures .1) (c .before .before .before .before .before .see-answers .ensures) (omega arith)) (omega arith)
+returns c =
+    text-written _ _ _ _ _ _ (c .before .before .before .produce .ensures .1) _ (c .report-of .ensures)
+    (text-fits _ _ _ _ _ _ (c .before .before .before .produce .ensures .1) _ _ _ (c .before .before .before .before .before .before .before .before .before .before .before .pre) (c .before .before .before .before .before .before .before .before .behind-phrases .ensures .0) (c .before .before .before .before .before .see-answers .ensures) (omega arith))
+    (omega arith)
 
 slice-aggregate-produce : tie.Need-slice-aggregate-produce
 slice-aggregate-produce c = search needs
@@ -54,8 +70,12 @@ pub write-spec : {M : Type 1} → statement M
 write-spec =
     tie.close
     (tie.spec
+    behind-phrases-requires
+    sub-if2
     mul-if2
     add-if2
+    mul-if2-2
+    add-if2-2
     see-answers-requires
     produce-requires
     report-of-requires

@@ -1,0 +1,3 @@
+pub mod FieldBytes
+pub mod FieldValues
+pub mod TestFields

@@ -17,18 +17,12 @@ use phrases::key_of;
 use phrases::text_of;
 
 // The place of a text in the book, else among the own phrases, which are the first `count` lines of `own`.
-pub fn find_phrase(index: &[u32], book: &[u8], own: &[u8], count: usize, text: &[u8]) -> Found
+fn search_both(index: &[u32], book: &[u8], own: &[u8], count: usize, text: &[u8]) -> Found
     requires { ⌜ Indexed (now index) (now book) × OwnNumbers (now index) (now book) (now own) count ⌝ }
     ensures { λ r. ⌜ r ≡ foundAnswer (phrases.find (phrasesIn (now (book .entry)) (now (own .entry)) count) (now (text .entry))) ⌝ }
 {
-    let n = count_of(index);
-    if n == 0 {
-        if count == 0 {
-            return Found::Nowhere;
-        }
-    }
     let weight = key_of(text);
-    if n != 0 {
+    if count_of(index) != 0 {
         if let Place::At(i) = find_keyed(index, book, weight, text) {
             return Found::InBook(i);
         }
@@ -37,6 +31,19 @@ pub fn find_phrase(index: &[u32], book: &[u8], own: &[u8], count: usize, text: &
         Place::At(i) => Found::InOwn(i),
         Place::Missing => Found::Nowhere,
     }
+}
+
+// The same. Where there are no phrases nothing is looked for; this much is small enough to be inlined.
+pub fn find_phrase(index: &[u32], book: &[u8], own: &[u8], count: usize, text: &[u8]) -> Found
+    requires { ⌜ Indexed (now index) (now book) × OwnNumbers (now index) (now book) (now own) count ⌝ }
+    ensures { λ r. ⌜ r ≡ foundAnswer (phrases.find (phrasesIn (now (book .entry)) (now (own .entry)) count) (now (text .entry))) ⌝ }
+{
+    if count_of(index) == 0 {
+        if count == 0 {
+            return Found::Nowhere;
+        }
+    }
+    search_both(index, book, own, count, text)
 }
 
 // The text of the phrase at a place of the book, or among the own phrases: a part of one of the two, never a copy.

@@ -9,7 +9,7 @@ ghost use Rattle.text.specs.Parts.{comma, partsFrom};
 ghost use Rattle.text.specs.Text.{Text};
 ghost use Rattle.lines.specs.Line as line;
 ghost use Rattle.lines.specs.Answers.{headOf};
-ghost use Rattle.line_reader.specs.Answers.{Tests};
+ghost use Rattle.line_reader.specs.Answers.{Tests, textHead};
 use crate::words::Operator;
 use crate::words::read_operator;
 use causes::Cause;
@@ -22,6 +22,13 @@ use transcript::Test;
 // What reading the R, OP and C of an if finds: the test, and where C ends.
 pub enum TestRead {
     Is { test: Test, end: usize },
+    Wrong,
+}
+
+// What the judging of one text finds: a text, another count of fields, or a field that is no text.
+pub enum OneText {
+    Right,
+    OtherCount,
     Wrong,
 }
 
@@ -47,21 +54,33 @@ pub fn count_fields(s: &[u8], a: usize) -> usize
     }
 }
 
-// One text, of a line with this head: `phrase,TEXT`, `print,TEXT` and `printex,TEXT`. A text has no comma, so it is the only field.
-pub fn read_text(s: &[u8], a: usize, head: Head) -> Head
-    ensures { λ r. ⌜ ((l : Text → line.Line) → ((t : Text) → headOf (l t) ≡ head) → r ≡ headOf (line.textLine l (partsFrom comma a (now (s .entry))))) ⌝ }
+// Whether the fields are one text, as in `phrase,TEXT`, `print,TEXT` and `printex,TEXT`. A text has no comma, so it is the only field.
+pub fn judge_text(s: &[u8], a: usize) -> OneText
+    ensures { λ r. ⌜ ((l : Text → line.Line) (h : Head) → ((t : Text) → headOf (l t) ≡ h) → textHead h r ≡ headOf (line.textLine l (partsFrom comma a (now (s .entry))))) ⌝ }
 {
     if s.len() < a {
-        return Head::Faulty { cause: Cause::Kind };
+        return OneText::OtherCount;
     }
     if text_bytes::is_text(&s[a..]) {
-        return head;
+        return OneText::Right;
     }
     if text::find(s, a, b',') < s.len() {
-        return Head::Faulty { cause: Cause::Kind };
+        return OneText::OtherCount;
     }
-    Head::Faulty {
-        cause: Cause::Value,
+    OneText::Wrong
+}
+
+// The head of a line that should have one text: this head where it has. A head is built where it is returned, since one that is handed on to a
+// function and back is slow to copy.
+pub fn text_head(found: OneText, head: Head) -> Head
+    ensures { λ r. ⌜ r ≡ textHead head found ⌝ }
+{
+    match found {
+        OneText::Right => head,
+        OneText::OtherCount => Head::Faulty { cause: Cause::Kind },
+        OneText::Wrong => Head::Faulty {
+            cause: Cause::Value,
+        },
     }
 }
 
@@ -74,16 +93,14 @@ pub fn read_input(s: &[u8], a: usize) -> Head
     }
     let e = text::find_within(s, a, b',');
     match decimals::read_natural(&s[a..e], 31) {
-        Natural::Is(register) => read_text(
-            s,
-            e + 1,
+        Natural::Is(register) => text_head(
+            judge_text(s, e + 1),
             Head::Input {
                 register: register as usize,
             },
         ),
-        Natural::Wrong => read_text(
-            s,
-            e + 1,
+        Natural::Wrong => text_head(
+            judge_text(s, e + 1),
             Head::Faulty {
                 cause: Cause::Value,
             },

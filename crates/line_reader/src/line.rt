@@ -6,12 +6,13 @@ ghost use Rattle.text.specs.Text.{allowed};
 ghost use Rattle.lines.specs.Line as line;
 ghost use Rattle.lines.specs.Words.{lineOfKind};
 ghost use Rattle.lines.specs.Answers.{headOf};
+use crate::fields::judge_text;
 use crate::fields::read_bare;
 use crate::fields::read_goto;
 use crate::fields::read_if;
 use crate::fields::read_input;
 use crate::fields::read_inputs;
-use crate::fields::read_text;
+use crate::fields::text_head;
 use crate::words::kind_of;
 use causes::Cause;
 use lines::Form;
@@ -25,17 +26,17 @@ pub fn read_line(form: Form, s: &[u8]) -> Head
     let e = text::find(s, 0, b',');
     let head = read_fields(form, kind_of(&s[..e]), s, e + 1);
     match head {
-        Head::Faulty { cause: _ } => faulty_line(s, head),
+        Head::Faulty { cause } => faulty_line(s, cause),
         _ => head,
     }
 }
 
-// A line whose fields have this fault: a byte that is not allowed comes before it.
-fn faulty_line(s: &[u8], head: Head) -> Head
-    ensures { λ r. ⌜ r ≡ cond (all allowed (now (s .entry))) head (Head.Faulty Cause.Byte) ⌝ }
+// A line whose fields have this cause: a byte that is not allowed comes before it.
+fn faulty_line(s: &[u8], cause: Cause) -> Head
+    ensures { λ r. ⌜ r ≡ cond (all allowed (now (s .entry))) (Head.Faulty cause) (Head.Faulty Cause.Byte) ⌝ }
 {
     if text_bytes::are_allowed(s) {
-        return head;
+        return Head::Faulty { cause };
     }
     Head::Faulty { cause: Cause::Byte }
 }
@@ -45,11 +46,11 @@ fn read_fields(form: Form, kind: Kind, s: &[u8], a: usize) -> Head
     ensures { λ r. ⌜ r ≡ headOf (lineOfKind form kind (partsFrom comma a (now (s .entry)))) ⌝ }
 {
     match kind {
-        Kind::Phrase => read_text(s, a, Head::Phrase),
+        Kind::Phrase => text_head(judge_text(s, a), Head::Phrase),
         Kind::Input => read_input(s, a),
         Kind::Inputs => read_inputs(s, a),
-        Kind::Print => read_text(s, a, Head::Print),
-        Kind::Printex => read_text(s, a, Head::Printex),
+        Kind::Print => text_head(judge_text(s, a), Head::Print),
+        Kind::Printex => text_head(judge_text(s, a), Head::Printex),
         Kind::If => read_if(form, s, a),
         Kind::Else => read_bare(form, s, a, Head::Else),
         Kind::Fi => read_bare(form, s, a, Head::Fi),

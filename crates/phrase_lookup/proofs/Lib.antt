@@ -1,1 +1,3 @@
 mod Absent
+mod SignSearch
+mod OwnSigns

@@ -4,6 +4,7 @@
 // `phrase_text` returns a part of the book or of the own phrases, never a copy; it takes a place only where there is a phrase.
 mod lookup;
 mod own;
+mod signs;
 
 pub use lookup::find_phrase;
 pub use lookup::phrase_text;

@@ -2,11 +2,11 @@
 ghost use mathlib.Core.Path.{_≡_};
 ghost use Prim.Native.Nat.{_+_, _<_};
 ghost use lib.ListN.{length, getD, set};
-ghost use Rattle.text.specs.Parts.{same};
 ghost use Rattle.phrases.specs.Phrases as phrases;
 ghost use Rattle.phrases.specs.Lookup.{ownTexts, placeAnswer};
 ghost use Rattle.phrases.specs.Index.{key, Indexed};
 ghost use Rattle.phrases.specs.Own.{ownNumber, ownText, OwnAt, OwnNumbers};
+use crate::signs::find_sign;
 use phrases::Place;
 use phrases::count_of;
 use phrases::key_of;
@@ -39,18 +39,8 @@ pub fn own_at<'a, 'b, 'c>(index: &'b [u32], book: &'c [u8], own: &'a [u8], k: us
     &own[a..e]
 }
 
-// Whether a text, of this key, is own phrase k: the two are compared where the number has the text's key and length.
-fn is_own_at(index: &[u32], book: &[u8], own: &[u8], k: usize, weight: usize, text: &[u8]) -> bool
-    requires { ⌜ Indexed (now index) (now book) × OwnAt (now index) (now book) (now own) k × (weight ≡ key (now text)) ⌝ }
-    ensures { λ r. ⌜ r ≡ same (now (text .entry)) (ownText (now (own .entry)) k) ⌝ }
-{
-    if number_of(index, k) / 4096 != weight % 8192 * 128 + text.len() {
-        return false;
-    }
-    text_parts::same(text, own_at(index, book, own, k))
-}
-
-// The place of a text, of this key, among the first `count` own phrases.
+// The place of a text, of this key, among the first `count` own phrases. It is compared only with those whose number has its key and length.
+// A number has seven bits for the length, as own phrases are shorter than 128 bytes.
 pub fn find_own(
     index: &[u32],
     book: &[u8],
@@ -62,12 +52,19 @@ pub fn find_own(
     requires { ⌜ Indexed (now index) (now book) × OwnNumbers (now index) (now book) (now own) count × (weight ≡ key (now text)) ⌝ }
     ensures { λ r. ⌜ r ≡ placeAnswer (phrases.place (ownTexts count (now (own .entry))) (now (text .entry))) ⌝ }
 {
+    let wanted = (weight % 8192 * 128 + text.len() % 128) as u32;
+    let first = 129 + count_of(index);
+    let end = first + count;
+    let numbers = &index[first..end];
     let mut k = 0;
-    while k < count {
-        if is_own_at(index, book, own, k, weight, text) {
+    loop {
+        k = find_sign(numbers, k, wanted);
+        if k == count {
+            return Place::Missing;
+        }
+        if text_parts::same(text, own_at(index, book, own, k)) {
             return Place::At(k);
         }
         k += 1;
     }
-    Place::Missing
 }

@@ -2,10 +2,10 @@
 ghost use mathlib.Core.Path.{_≡_};
 ghost use mathlib.Core.List.{_++_};
 ghost use Prim.Native.Nat.{_+_, _-_, _*_, _^_, _≤_, _<_};
-ghost use lib.ListN.{length, drop};
+ghost use lib.ListN.{length, take, drop};
 ghost use Rattle.output.specs.Pour.{poured};
 ghost use Rattle.bits.specs.Bits.{bitsOf, bytesBits};
-ghost use Rattle.text.specs.Parts.{split, comma};
+ghost use Rattle.text.specs.Parts.{comma, partsFrom};
 ghost use Rattle.phrases.specs.Lookup.{bookTexts, ownTexts, phrasesIn};
 ghost use Rattle.phrases.specs.Own.{Listed};
 ghost use Rattle.plate.specs.Writing.{spelledBits, ownBit, textBits, textsBits};
@@ -132,21 +132,25 @@ fn put_new(out: &mut [u8], at: usize, width: usize, front: usize, text: &[u8]) -
     put_spelled(out, end, text)
 }
 
-// What goes before a text, `width` bits of a number; then the text: a phrase's place where it is a phrase, else spelled.
+// What goes before a text, `width` bits of a number; then the text, which stands in a line from a to e: a phrase's place where it is a phrase,
+// else spelled. The line is handed on with its places, since a slice that was just made is slow to copy.
 pub fn put_text(
     out: &mut [u8],
     at: usize,
     width: usize,
     front: usize,
-    text: &[u8],
+    line: &[u8],
+    a: usize,
+    e: usize,
     index: &[u32],
     book: &[u8],
     own: &[u8],
     count: usize,
 ) -> usize
-    requires { ⌜ (length (now out) ≤ 2953) × (width ≤ 8) × (front < 256) × Listed (now index) (now book) (now own) count ⌝ }
-    ensures { λ r. ⌜ (r, bytesBits (now (out .exit))) ≡ poured at (bitsOf width front ++ textBits (phrasesIn (now (book .entry)) (now (own .entry)) count) (now (text .entry))) (bytesBits (now (out .entry))) ⌝ }
+    requires { ⌜ (length (now out) ≤ 2953) × (width ≤ 8) × (front < 256) × (a ≤ e) × (e ≤ length (now line)) × Listed (now index) (now book) (now own) count ⌝ }
+    ensures { λ r. ⌜ (r, bytesBits (now (out .exit))) ≡ poured at (bitsOf width front ++ textBits (phrasesIn (now (book .entry)) (now (own .entry)) count) (take (e - a) (drop a (now (line .entry))))) (bytesBits (now (out .entry))) ⌝ }
 {
+    let text = &line[a..e];
     match phrase_lookup::find_phrase(index, book, own, count, text) {
         Found::InBook(i) => {
             let places = phrases::width_of(phrases::count_of(index));
@@ -160,25 +164,25 @@ pub fn put_text(
     }
 }
 
-// The fields of a line from field k on, each a text.
+// The fields of a line from a place on, each a text.
 pub fn put_texts(
     out: &mut [u8],
     at: usize,
     line: &[u8],
-    k: usize,
+    from: usize,
     index: &[u32],
     book: &[u8],
     own: &[u8],
     count: usize,
 ) -> usize
     requires { ⌜ (length (now out) ≤ 2953) × Listed (now index) (now book) (now own) count ⌝ }
-    ensures { λ r. ⌜ (r, bytesBits (now (out .exit))) ≡ poured at (textsBits (phrasesIn (now (book .entry)) (now (own .entry)) count) (drop k (split comma (now (line .entry))))) (bytesBits (now (out .entry))) ⌝ }
+    ensures { λ r. ⌜ (r, bytesBits (now (out .exit))) ≡ poured at (textsBits (phrasesIn (now (book .entry)) (now (own .entry)) count) (partsFrom comma from (now (line .entry)))) (bytesBits (now (out .entry))) ⌝ }
 {
     let mut end = at;
-    let mut a = text_parts::part_start(line, b',', k);
+    let mut a = from;
     while a <= line.len() {
         let e = text::find(line, a, b',');
-        end = put_text(out, end, 0, 0, &line[a..e], index, book, own, count);
+        end = put_text(out, end, 0, 0, line, a, e, index, book, own, count);
         a = e + 1;
     }
     end

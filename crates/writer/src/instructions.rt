@@ -5,7 +5,7 @@ ghost use Prim.Native.Nat.{_≤_};
 ghost use lib.ListN.{length, drop, getD};
 ghost use Rattle.output.specs.Pour.{poured};
 ghost use Rattle.bits.specs.Bits.{bitsOf, bytesBits};
-ghost use Rattle.text.specs.Parts.{split, comma};
+ghost use Rattle.text.specs.Parts.{split, comma, partsFrom};
 ghost use Rattle.phrases.specs.Phrases.{Phrases};
 ghost use Rattle.phrases.specs.Lookup.{phrasesIn};
 ghost use Rattle.phrases.specs.Own.{Listed};
@@ -34,75 +34,91 @@ fn op_code(op: Op) -> usize
     }
 }
 
-// A question for a number.
+// A question for a number; its text goes from a to the line's end.
 pub fn put_input(
     out: &mut [u8],
     at: usize,
     register: usize,
-    text: &[u8],
+    line: &[u8],
+    a: usize,
     index: &[u32],
     book: &[u8],
     own: &[u8],
     count: usize,
 ) -> usize
-    requires { ⌜ (length (now out) ≤ 2953) × Listed (now index) (now book) (now own) count ⌝ }
-    ensures { λ r. ⌜ (r, bytesBits (now (out .exit))) ≡ poured at (statementBits (phrasesIn (now (book .entry)) (now (own .entry)) count) (input register (now (text .entry)))) (bytesBits (now (out .entry))) ⌝ }
+    requires { ⌜ (length (now out) ≤ 2953) × (a ≤ length (now line)) × Listed (now index) (now book) (now own) count ⌝ }
+    ensures { λ r. ⌜ (r, bytesBits (now (out .exit))) ≡ poured at (statementBits (phrasesIn (now (book .entry)) (now (own .entry)) count) (input register (drop a (now (line .entry))))) (bytesBits (now (out .entry))) ⌝ }
 {
-    put_text(out, at, 8, register % 32, text, index, book, own, count)
+    put_text(
+        out,
+        at,
+        8,
+        register % 32,
+        line,
+        a,
+        line.len(),
+        index,
+        book,
+        own,
+        count,
+    )
 }
 
-// A question with options: an `inputs` line has its text in field 2, and the options from field 3 on, two or more.
+// A question with options: the text of an `inputs` line stands from a on, and behind it the options, two or more.
 pub fn put_inputs(
     out: &mut [u8],
     at: usize,
     register: usize,
     options: usize,
     line: &[u8],
+    a: usize,
     index: &[u32],
     book: &[u8],
     own: &[u8],
     count: usize,
 ) -> usize
-    requires { ⌜ (length (now out) ≤ 2953) × Listed (now index) (now book) (now own) count × (options ≡ length (drop 3 (split comma (now line)))) × (2 ≤ options) ⌝ }
+    requires { ⌜ (length (now out) ≤ 2953) × Listed (now index) (now book) (now own) count × (a ≤ length (now line)) × (partsFrom comma a (now line) ≡ drop 2 (split comma (now line))) × (options ≡ length (drop 3 (split comma (now line)))) × (2 ≤ options) ⌝ }
     ensures { λ r. ⌜ (r, bytesBits (now (out .exit))) ≡ poured at (statementBits (phrasesIn (now (book .entry)) (now (own .entry)) count) (inputs register (getD (split comma (now (line .entry))) 2 []) (drop 3 (split comma (now (line .entry)))))) (bytesBits (now (out .entry))) ⌝ }
 {
     let front = 32 + register % 32;
-    let question = text_parts::part(line, b',', 2);
-    let mut end = put_text(out, at, 8, front, question, index, book, own, count);
+    let e = text::find(line, a, b',');
+    let mut end = put_text(out, at, 8, front, line, a, e, index, book, own, count);
     end = bits_out::put_bits(out, end, 3, options - 2);
-    put_texts(out, end, line, 3, index, book, own, count)
+    put_texts(out, end, line, e + 1, index, book, own, count)
 }
 
-// A text that is shown.
+// A text that is shown, from a to the line's end.
 pub fn put_print(
     out: &mut [u8],
     at: usize,
-    text: &[u8],
+    line: &[u8],
+    a: usize,
     index: &[u32],
     book: &[u8],
     own: &[u8],
     count: usize,
 ) -> usize
-    requires { ⌜ (length (now out) ≤ 2953) × Listed (now index) (now book) (now own) count ⌝ }
-    ensures { λ r. ⌜ (r, bytesBits (now (out .exit))) ≡ poured at (statementBits (phrasesIn (now (book .entry)) (now (own .entry)) count) (print (now (text .entry)))) (bytesBits (now (out .entry))) ⌝ }
+    requires { ⌜ (length (now out) ≤ 2953) × (a ≤ length (now line)) × Listed (now index) (now book) (now own) count ⌝ }
+    ensures { λ r. ⌜ (r, bytesBits (now (out .exit))) ≡ poured at (statementBits (phrasesIn (now (book .entry)) (now (own .entry)) count) (print (drop a (now (line .entry))))) (bytesBits (now (out .entry))) ⌝ }
 {
-    put_text(out, at, 3, 2, text, index, book, own, count)
+    put_text(out, at, 3, 2, line, a, line.len(), index, book, own, count)
 }
 
-// A verdict.
+// A verdict, from a to the line's end.
 pub fn put_printex(
     out: &mut [u8],
     at: usize,
-    text: &[u8],
+    line: &[u8],
+    a: usize,
     index: &[u32],
     book: &[u8],
     own: &[u8],
     count: usize,
 ) -> usize
-    requires { ⌜ (length (now out) ≤ 2953) × Listed (now index) (now book) (now own) count ⌝ }
-    ensures { λ r. ⌜ (r, bytesBits (now (out .exit))) ≡ poured at (statementBits (phrasesIn (now (book .entry)) (now (own .entry)) count) (printex (now (text .entry)))) (bytesBits (now (out .entry))) ⌝ }
+    requires { ⌜ (length (now out) ≤ 2953) × (a ≤ length (now line)) × Listed (now index) (now book) (now own) count ⌝ }
+    ensures { λ r. ⌜ (r, bytesBits (now (out .exit))) ≡ poured at (statementBits (phrasesIn (now (book .entry)) (now (own .entry)) count) (printex (drop a (now (line .entry))))) (bytesBits (now (out .entry))) ⌝ }
 {
-    put_text(out, at, 3, 3, text, index, book, own, count)
+    put_text(out, at, 3, 3, line, a, line.len(), index, book, own, count)
 }
 
 // A goto. The phrases do not matter.

@@ -35,21 +35,14 @@ pub fn put_line(
     match head {
         Head::Input { register } => {
             let a = accepted_lines::behind_register(line, 6);
-            put_input(out, at, register, &line[a..], index, book, own, count)
+            put_input(out, at, register, line, a, index, book, own, count)
         }
-        Head::Inputs { register, options } => put_inputs(
-            out,
-            at,
-            register,
-            options,
-            line,
-            index,
-            book,
-            own,
-            count,
-        ),
-        Head::Print => put_print(out, at, &line[6..], index, book, own, count),
-        Head::Printex => put_printex(out, at, &line[8..], index, book, own, count),
+        Head::Inputs { register, options } => {
+            let a = accepted_lines::behind_register(line, 7);
+            put_inputs(out, at, register, options, line, a, index, book, own, count)
+        }
+        Head::Print => put_print(out, at, line, 6, index, book, own, count),
+        Head::Printex => put_printex(out, at, line, 8, index, book, own, count),
         Head::Goto { skip } => put_goto(out, at, skip),
         Head::IfSkip { test, skip } => put_if(out, at, test, skip),
         _ => at,

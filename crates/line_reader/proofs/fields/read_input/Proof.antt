@@ -36,41 +36,49 @@ read-natural-requires c κs = search needs
 enum-known-register : tie.Need-enum-known-register
 enum-known-register c = search needs
 
-add-read-text : tie.Need-add-read-text
-add-read-text c = search needs
+add-judge-text : tie.Need-add-judge-text
+add-judge-text c = search needs
 
-cast-t14 : tie.Need-cast-t14
-cast-t14 c = search needs
+judge-text-requires : tie.Need-judge-text-requires
+judge-text-requires c κs = search needs
 
-read-text-requires : tie.Need-read-text-requires
-read-text-requires c κs = search needs
+cast-t15 : tie.Need-cast-t15
+cast-t15 c = search needs
+
+text-head-requires : tie.Need-text-head-requires
+text-head-requires c κs = search needs
 
 enum-told : tie.Need-enum-told
 enum-told c = search needs
 
-add-read-text-2 : tie.Need-add-read-text-2
-add-read-text-2 c = search needs
+add-judge-text-2 : tie.Need-add-judge-text-2
+add-judge-text-2 c = search needs
 
-read-text-requires-2 : tie.Need-read-text-requires-2
-read-text-requires-2 c κs = search needs
+judge-text-requires-2 : tie.Need-judge-text-requires-2
+judge-text-requires-2 c κs = search needs
+
+text-head-requires-2 : tie.Need-text-head-requires-2
+text-head-requires-2 c κs = search needs
 
 returns-2 : tie.Need-returns-2
 returns-2 c =
-    let g = c .before .before .before .before .before .before .before .before .before .args in
-    let e = c .before .before .before .before .before .before .find-within .result in
-    let fields = parts-next comma (g .s .now) (g .a) e (c .before .before .before .before .before .before .before .if1 .left) (c .before .before .before .before .before .before .find-within .ensures .0) in
-    let register = natural-is 31 _ (sym (c .before .before .before .before .read-natural .ensures) ∙ c .before .before .register .given .1) in
-    c .read-text .ensures (λ t. says (input _ t)) (λ t. refl)
-    ∙ ap headOf (sym (ap inputLine fields ∙ input-register _ _ (partsFrom comma (e + 1) (g .s .now)) register))
+    let g = c .before .before .before .before .before .before .before .before .before .before .args in
+    let f = c .before .before .before .before .before .before .before in
+    let fields = parts-next comma (g .s .now) (g .a) (f .find-within .result) (f .before .if1 .left) (f .find-within .ensures .0) in
+    let register = natural-is 31 _ (sym (c .before .before .before .before .before .read-natural .ensures) ∙ c .before .before .before .register .given .1) in
+    c .text-head .ensures
+    ∙ c .before .judge-text .ensures (λ t. says (input _ t)) _ (λ t. refl)
+    ∙ ap headOf (sym (ap inputLine fields ∙ input-register _ _ (partsFrom comma (f .find-within .result + 1) (g .s .now)) register))
 
 returns-3 : tie.Need-returns-3
 returns-3 c =
-    let g = c .before .before .before .before .before .before .before .before .args in
-    let e = c .before .before .before .before .before .find-within .result in
-    let fields = parts-next comma (g .s .now) (g .a) e (c .before .before .before .before .before .before .if1 .left) (c .before .before .before .before .before .find-within .ensures .0) in
-    let register = natural-wrong 31 _ (sym (c .before .before .before .read-natural .ensures) ∙ c .before .enum-told .given .1) in
-    c .read-text2 .ensures (λ t. faulty Value) (λ t. refl)
-    ∙ ap headOf (sym (ap inputLine fields ∙ input-wrong _ (partsFrom comma (e + 1) (g .s .now)) register))
+    let g = c .before .before .before .before .before .before .before .before .before .args in
+    let f = c .before .before .before .before .before .before in
+    let fields = parts-next comma (g .s .now) (g .a) (f .find-within .result) (f .before .if1 .left) (f .find-within .ensures .0) in
+    let register = natural-wrong 31 _ (sym (c .before .before .before .before .read-natural .ensures) ∙ c .before .before .enum-told .given .1) in
+    c .text-head2 .ensures
+    ∙ c .before .judge-text2 .ensures (λ t. faulty Value) _ (λ t. refl)
+    ∙ ap headOf (sym (ap inputLine fields ∙ input-wrong _ (partsFrom comma (f .find-within .result + 1) (g .s .now)) register))
 
 pub read-input-spec : {M : Type 1} → statement M
 read-input-spec =
@@ -83,11 +91,13 @@ read-input-spec =
     part-read-natural-end
     read-natural-requires
     enum-known-register
-    add-read-text
-    cast-t14
-    read-text-requires
+    add-judge-text
+    judge-text-requires
+    cast-t15
+    text-head-requires
     enum-told
-    add-read-text-2
-    read-text-requires-2
+    add-judge-text-2
+    judge-text-requires-2
+    text-head-requires-2
     returns-2
     returns-3)

@@ -29,17 +29,17 @@ add-read-fields c = search needs
 read-fields-requires : tie.Need-read-fields-requires
 read-fields-requires c κs = search needs
 
-enum-told : tie.Need-enum-told
-enum-told c = search needs
+enum-known-head : tie.Need-enum-known-head
+enum-known-head c = search needs
 
 faulty-line-requires : tie.Need-faulty-line-requires
 faulty-line-requires c κs = search needs
 
 returns : tie.Need-returns
-returns c = let g = c .before .before .before .before .before .before .before .before .args in
-    let k = fields-of-kind (g .form) (g .s .now) _ _ _ (c .before .before .before .before .before .before .find .ensures .0) refl (c .before .before .before .before .kind-of .ensures) in
+returns c = let g = c .before .before .before .before .before .before .before .before .before .args in
+    let k = fields-of-kind (g .form) (g .s .now) _ _ _ (c .before .before .before .before .before .before .before .find .ensures .0) refl (c .before .before .before .before .before .kind-of .ensures) in
     c .faulty-line .ensures
-    ∙ ap (λ h. cond (all allowed (g .s .now)) h (Faulty Byte)) (c .before .before .before .read-fields .ensures ∙ ap headOf (sym k))
+    ∙ ap (λ h. cond (all allowed (g .s .now)) h (Faulty Byte)) (sym (c .before .before .head .given .1) ∙ c .before .before .before .before .read-fields .ensures ∙ ap headOf (sym k))
     ∙ sym (line-judged (g .form) (g .s .now))
 
 returns-2 : tie.Need-returns-2
@@ -57,7 +57,7 @@ read-line-spec =
     kind-of-requires
     add-read-fields
     read-fields-requires
-    enum-told
+    enum-known-head
     faulty-line-requires
     returns
     returns-2)

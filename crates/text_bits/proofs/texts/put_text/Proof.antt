@@ -11,6 +11,15 @@ use Rattle.text_bits.proofs.TextBits.{width-fits}
 use Rattle.text_bits.proofs.texts.put_text.Statement.{statement}
 use Rattle.text_bits.proofs.texts.put_text.Tie as tie
 
+sub-text : tie.Need-sub-text
+sub-text c = search needs
+
+part-text-start : tie.Need-part-text-start
+part-text-start c = search needs
+
+part-text-end : tie.Need-part-text-end
+part-text-end c = search needs
+
 find-phrase-requires : tie.Need-find-phrase-requires
 find-phrase-requires c κs = search needs
 
@@ -22,12 +31,12 @@ count-of-requires c κs = search needs
 
 width-of-requires : tie.Need-width-of-requires
 width-of-requires c κs =
-    let listed = c .before .before .before .before .before .before .before .before .before .before .pre .3 .indexed in
+    let listed = c .before .before .before .before .before .before .before .before .before .before .before .pre .5 .indexed in
     omega (arith, c .count-of .ensures, indexed-count _ _ listed, listed .few)
 
 put-place-requires : tie.Need-put-place-requires
 put-place-requires c κs =
-    let listed = c .before .before .before .before .before .before .before .before .before .before .before .before .pre .3 .indexed in
+    let listed = c .before .before .before .before .before .before .before .before .before .before .before .before .before .pre .5 .indexed in
     (search needs, search needs, search needs, rw (c .before .width-of .ensures) (width-fits _ (omega (arith, c .before .before .count-of .ensures, indexed-count _ _ listed, listed .few))), search needs)
 
 enum-known-i-2 : tie.Need-enum-known-i-2
@@ -54,9 +63,9 @@ returns c =
     let w = c .before .before .before .before in
     let i = w .before .before .before in
     let f = i .before .before in
-    let start = f .before .before .before .before .before .before in
+    let start = f .before .before .before .before .before .before .before in
     let found = found-is _ _ (sym (f .find-phrase .ensures) ∙ i .i .given .1) in
-    let size = w .width-of .ensures ∙ ap width (w .before .count-of .ensures ∙ sym (indexed-count _ _ (start .pre .3 .indexed))) in
+    let size = w .width-of .ensures ∙ ap width (w .before .count-of .ensures ∙ sym (indexed-count _ _ (start .pre .5 .indexed))) in
     rw found (simp append-assoc (simp append-assoc at (rw size at (c .before .before .put-place .ensures))))
 
 same-length-2 : tie.Need-same-length-2
@@ -68,9 +77,9 @@ returns-2 c =
     let w = c .before .before .before .before in
     let i = w .before .before in
     let f = i .before .before in
-    let start = f .before .before .before .before .before .before in
+    let start = f .before .before .before .before .before .before .before in
     let found = found-is _ _ (sym (f .find-phrase .ensures) ∙ i .i2 .given .1) in
-    let size = w .width-of2 .ensures ∙ ap width (sym (start .pre .3 .numbers .whole)) in
+    let size = w .width-of2 .ensures ∙ ap width (sym (start .pre .5 .numbers .whole)) in
     rw found (simp append-assoc (simp append-assoc at (rw size at (c .before .before .put-place2 .ensures))))
 
 same-length-3 : tie.Need-same-length-3
@@ -88,6 +97,9 @@ pub put-text-spec : {M : Type 1} → statement M
 put-text-spec =
     tie.close
     (tie.spec
+    sub-text
+    part-text-start
+    part-text-end
     find-phrase-requires
     enum-known-i
     count-of-requires

@@ -1,10 +1,10 @@
 -- `put_texts` meets its contract: the fields from the place a on are left to write.
 use Prim.Native.Nat.{_+_, _-_}
-use mathlib.Core.Path.{ap}
-use lib.ListN.{length, drop}
+use mathlib.Core.Path.{refl}
+use lib.ListN.{length}
 use borrow.Author.Needs.{needs}
 use Rattle.bits.specs.Bits.{bitsOf}
-use Rattle.text.specs.Parts.{split, partsFrom, comma}
+use Rattle.text.specs.Parts.{partsFrom, comma}
 use Rattle.phrases.specs.Lookup.{phrasesIn}
 use Rattle.plate.specs.Writing.{textsBits}
 use Rattle.text_bits.proofs.Writes.{Left, begun, turned, done}
@@ -13,29 +13,17 @@ use Rattle.text_bits.proofs.texts.put_texts.Statement.{statement}
 use Rattle.text_bits.proofs.texts.put_texts.Tie as tie
 
 abbrev Inv-loop : tie.InvT-loop
-Inv-loop out₀ at line k index book own count end₀ a₀ out end a =
-    Left at (textsBits (phrasesIn book own count) (drop k (split comma line))) out₀ end (textsBits (phrasesIn book own count) (partsFrom comma a line)) out
+Inv-loop out₀ at line from index book own count end₀ a₀ out end a =
+    Left at (textsBits (phrasesIn book own count) (partsFrom comma from line)) out₀ end (textsBits (phrasesIn book own count) (partsFrom comma a line)) out
 
 abbrev μ-loop : tie.MeasureT-loop
-μ-loop out₀ at line k index book own count end₀ a₀ out end a = length line + 1 - a
-
-part-start-requires : tie.Need-part-start-requires Inv-loop μ-loop
-part-start-requires c κs = search needs
+μ-loop out₀ at line from index book own count end₀ a₀ out end a = length line + 1 - a
 
 loop-holds : tie.Need-loop-holds Inv-loop μ-loop
-loop-holds c = begun _ _ (ap (textsBits _) (c .part-start .ensures)) (search needs)
+loop-holds c = begun _ _ refl (search needs)
 
 find-requires : tie.Need-find-requires Inv-loop μ-loop
 find-requires c κs = search needs
-
-sub-put-text : tie.Need-sub-put-text Inv-loop μ-loop
-sub-put-text c = search needs
-
-part-put-text-start : tie.Need-part-put-text-start Inv-loop μ-loop
-part-put-text-start c = search needs
-
-part-put-text-end : tie.Need-part-put-text-end Inv-loop μ-loop
-part-put-text-end c = search needs
 
 put-text-requires : tie.Need-put-text-requires Inv-loop μ-loop
 put-text-requires c κs = search needs
@@ -49,9 +37,9 @@ loop-less c = search needs
 loop-again : tie.Need-loop-again Inv-loop μ-loop
 unfolding bitsOf
 loop-again c =
-    let f = c .before .before .before .before .before in
+    let f = c .before .before .before .before in
     let l = f .before .before in
-    let start = l .before .before .before .before .before .before .before in
+    let start = l .before .before .before .before .before .before in
     let next = texts-next _ _ _ _ (f .before .loop-test .taken) (f .find .ensures .0) in
     turned (l .loop .inv) _ _ next (c .before .before .put-text .ensures) (start .pre .0)
 
@@ -67,12 +55,8 @@ put-texts-spec =
     (tie.spec
     Inv-loop
     μ-loop
-    part-start-requires
     loop-holds
     find-requires
-    sub-put-text
-    part-put-text-start
-    part-put-text-end
     put-text-requires
     add-a
     loop-less

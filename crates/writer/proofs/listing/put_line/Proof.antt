@@ -3,7 +3,7 @@ use mathlib.Core.Path.{refl, sym, _∙_}
 use borrow.Author.Needs.{needs}
 use Rattle.phrases.specs.Lookup.{phrasesIn}
 use Rattle.lines.proofs.FieldPlaces.{whole-rest}
-use Rattle.lines.proofs.LineTexts.{texts, asked-register, asked-text}
+use Rattle.lines.proofs.LineTexts.{texts, asked-register, asked-text, chosen-register, chosen-texts}
 use Rattle.writer.proofs.LineBits.{line-writes, line-silent}
 use Rattle.writer.proofs.listing.put_line.Statement.{statement}
 use Rattle.writer.proofs.listing.put_line.Tie as tie
@@ -14,55 +14,34 @@ enum-known-head c = search needs
 behind-register-requires : tie.Need-behind-register-requires
 behind-register-requires c κs = asked-register _ _ _ (c .before .before .before .before .before .before .before .before .pre .2) (c .before .head .given .1)
 
-sub-put-input : tie.Need-sub-put-input
-sub-put-input c = search needs
-
-part-put-input-start : tie.Need-part-put-input-start
-part-put-input-start c = search needs
-
-part-put-input-end : tie.Need-part-put-input-end
-part-put-input-end c = search needs
-
 put-input-requires : tie.Need-put-input-requires
 put-input-requires c κs = search needs
 
 enum-known-head-2 : tie.Need-enum-known-head-2
 enum-known-head-2 c = search needs
 
+behind-register-requires-2 : tie.Need-behind-register-requires-2
+behind-register-requires-2 c κs = chosen-register _ _ _ _ (c .before .before .before .before .before .before .before .before .pre .2) (c .before .head2 .given .1)
+
 put-inputs-requires : tie.Need-put-inputs-requires
-put-inputs-requires c κs = let start = c .before .before .before .before .before .before .before .before .before in
-    let t = texts _ _ _ (start .pre .2) (c .before .before .head2 .given .1) in
-    (search needs, start .pre .1, t .0, t .1)
+put-inputs-requires c κs =
+    let start = c .before .before .before .before .before .before .before .before .before .before in
+    let e = c .before .before .before .head2 .given .1 in
+    let r = c .before .behind-register2 .ensures in
+    let t = texts _ _ _ (start .pre .2) e in
+    (search needs, start .pre .1, r .1, chosen-texts _ _ _ _ _ (start .pre .2) e (r .0), t .0, t .1)
 
 enum-told : tie.Need-enum-told
 enum-told c = search needs
 
-sub-put-print : tie.Need-sub-put-print
-sub-put-print c = texts _ _ _ (c .before .before .before .before .before .before .before .before .pre .2) (c .before .enum-told .given .1) .1
-
-part-put-print-start : tie.Need-part-put-print-start
-part-put-print-start c = texts _ _ _ (c .before .before .before .before .before .before .before .before .pre .2) (c .before .enum-told .given .1) .1
-
-part-put-print-end : tie.Need-part-put-print-end
-part-put-print-end c = search needs
-
 put-print-requires : tie.Need-put-print-requires
-put-print-requires c κs = search needs
+put-print-requires c κs = (search needs, texts _ _ _ (c .before .before .before .before .before .before .before .before .pre .2) (c .before .enum-told .given .1) .1, search needs)
 
 enum-told-2 : tie.Need-enum-told-2
 enum-told-2 c = search needs
 
-sub-put-printex : tie.Need-sub-put-printex
-sub-put-printex c = texts _ _ _ (c .before .before .before .before .before .before .before .before .pre .2) (c .before .enum-told2 .given .1) .1
-
-part-put-printex-start : tie.Need-part-put-printex-start
-part-put-printex-start c = texts _ _ _ (c .before .before .before .before .before .before .before .before .pre .2) (c .before .enum-told2 .given .1) .1
-
-part-put-printex-end : tie.Need-part-put-printex-end
-part-put-printex-end c = search needs
-
 put-printex-requires : tie.Need-put-printex-requires
-put-printex-requires c κs = search needs
+put-printex-requires c κs = (search needs, texts _ _ _ (c .before .before .before .before .before .before .before .before .pre .2) (c .before .enum-told2 .given .1) .1, search needs)
 
 enum-known-head-3 : tie.Need-enum-known-head-3
 enum-known-head-3 c = search needs
@@ -81,26 +60,25 @@ same-length c = search needs
 
 returns : tie.Need-returns
 returns c =
-    let start = c .before .before .before .before .before .before .before .before .before .before .before .before .before .before in
-    let e = c .before .before .before .before .before .before .before .head .given .1 in
-    let r = c .before .before .before .before .before .behind-register .ensures in
-    let t = asked-text _ _ _ _ (start .pre .2) e (r .0) (r .1) in
+    let start = c .before .before .before .before .before .before .before .before .before .before .before .before .before in
+    let e = c .before .before .before .before .before .before .head .given .1 in
+    let r = c .before .before .before .before .behind-register .ensures in
+    let t = sym (whole-rest (start .args .line .now) _) ∙ asked-text _ _ _ _ (start .pre .2) e (r .0) (r .1) in
     line-writes _ _ _ _ e _ _ _ _ refl (rw t at (c .before .before .put-input .ensures))
 
 same-length-2 : tie.Need-same-length-2
 same-length-2 c = search needs
 
 returns-2 : tie.Need-returns-2
-returns-2 c = line-writes _ _ _ _ (c .before .before .before .before .before .head2 .given .1) _ _ _ _ refl (c .before .before .put-inputs .ensures)
+returns-2 c = line-writes _ _ _ _ (c .before .before .before .before .before .before .head2 .given .1) _ _ _ _ refl (c .before .before .put-inputs .ensures)
 
 same-length-3 : tie.Need-same-length-3
 same-length-3 c = search needs
 
 returns-3 : tie.Need-returns-3
 returns-3 c =
-    let start = c .before .before .before .before .before .before .before .before .before .before .before .before in
-    let e = c .before .before .before .before .before .enum-told .given .1 in
-    let t = whole-rest (start .args .line .now) 6 ∙ sym (texts _ _ _ (start .pre .2) e .0) in
+    let e = c .before .before .before .before .enum-told .given .1 in
+    let t = sym (texts _ _ _ (c .before .before .before .before .before .before .before .before .before .before .before .pre .2) e .0) in
     line-writes _ _ _ _ e _ _ _ _ refl (rw t at (c .before .before .put-print .ensures))
 
 same-length-4 : tie.Need-same-length-4
@@ -108,9 +86,8 @@ same-length-4 c = search needs
 
 returns-4 : tie.Need-returns-4
 returns-4 c =
-    let start = c .before .before .before .before .before .before .before .before .before .before .before .before in
-    let e = c .before .before .before .before .before .enum-told2 .given .1 in
-    let t = whole-rest (start .args .line .now) 8 ∙ sym (texts _ _ _ (start .pre .2) e .0) in
+    let e = c .before .before .before .before .enum-told2 .given .1 in
+    let t = sym (texts _ _ _ (c .before .before .before .before .before .before .before .before .before .before .before .pre .2) e .0) in
     line-writes _ _ _ _ e _ _ _ _ refl (rw t at (c .before .before .put-printex .ensures))
 
 same-length-5 : tie.Need-same-length-5
@@ -136,21 +113,13 @@ put-line-spec =
     (tie.spec
     enum-known-head
     behind-register-requires
-    sub-put-input
-    part-put-input-start
-    part-put-input-end
     put-input-requires
     enum-known-head-2
+    behind-register-requires-2
     put-inputs-requires
     enum-told
-    sub-put-print
-    part-put-print-start
-    part-put-print-end
     put-print-requires
     enum-told-2
-    sub-put-printex
-    part-put-printex-start
-    part-put-printex-end
     put-printex-requires
     enum-known-head-3
     put-goto-requires

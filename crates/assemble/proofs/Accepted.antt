@@ -4,17 +4,16 @@ use native.Mathlib.Omega.{arith}
 use mathlib.Core.Path.{_≡_, ap}
 use mathlib.Core.List.{List, [], _∷_}
 use lib.ListN.{length, drop, getD, length-append}
-use borrow.Author.Tests.{le-leb}
 use Rattle.text.specs.Text.{Text}
 use Rattle.phrases.specs.Lookup.{ownTexts}
 use Rattle.lines.specs.declared.Form.{Form}
 use Rattle.lines.specs.declared.Checked.the-variants.{Fine}
 use Rattle.lines.specs.Line.{Line, phrase, says, ifLine, elseLine, fiLine, gotoLine, ifSkipLine, faulty}
-use Rattle.lines.specs.Check.{Seen, nothingSeen, next, mostBytes, linesOf, Accepted}
+use Rattle.lines.specs.Check.{Seen, nothingSeen, next, mostBytes, linesOf}
 use Rattle.lines.specs.Answers.{seenIn, checkedAnswer}
-use Rattle.lines.proofs.Passes.{Passes, passes-check}
-use Rattle.lines.proofs.Accepts.{Accepts, accepts}
-use Rattle.check_lines.proofs.Answers.{accept-is}
+use Rattle.lines.proofs.Passes.{Passes}
+use Rattle.lines.proofs.Accepts.{Accepts}
+use Rattle.check_lines.proofs.Fine.{fine-accepts, fine-counted}
 use Rattle.lines.proofs.CleanTexts.{passes-clean}
 use Rattle.assemble.specs.LineCode.{lineCode, linesCode}
 use Rattle.assemble.specs.Assembled.{Counted}
@@ -43,19 +42,8 @@ lines-counted book n s last ks (l ∷ ls) p =
 -- ---- an accepted text
 
 module _ (form : Form) (book : List Text) (text : List ℕ) {own n : ℕ} (c : checkedAnswer (seenIn form book text) ≡ Fine own n) where
-  abbrev held : Accepted
-  held = record { own = ownTexts own text; lines = linesOf form text }
-
-  holds : Accepts form book text held
-  holds = accepts form book text held (accept-is form text book c)
-
-  -- what the check has seen at the end
-  seen-is : holds .seen .instructions ≡ n
-  unfolding seenIn
-  seen-is =
-      let e = passes-check book 1 nothingSeen (holds .seen) (linesOf form text) (holds .passes) in
-      let k : Fine (length (holds .seen .own)) (holds .seen .instructions) ≡ Fine own n = rw (le-leb (length text) (mostBytes form) (holds .size), e) at c in
-      cc
+  abbrev holds : Accepts form book text (record { own = ownTexts own text; lines = linesOf form text })
+  holds = fine-accepts form book text c
 
   pub few-bytes : length text ≤ mostBytes form
   few-bytes = holds .size
@@ -64,6 +52,6 @@ module _ (form : Form) (book : List Text) (text : List ℕ) {own n : ℕ} (c : c
   accepted-counted skips =
       record {
         clean = passes-clean book 1 nothingSeen (holds .seen) (linesOf form text) (holds .passes);
-        count = omega (arith, lines-counted book 1 nothingSeen (holds .seen) skips (linesOf form text) (holds .passes), seen-is);
-        few = omega (arith, holds .room, seen-is);
+        count = omega (arith, lines-counted book 1 nothingSeen (holds .seen) skips (linesOf form text) (holds .passes), fine-counted form book text c);
+        few = omega (arith, holds .room, fine-counted form book text c);
       }

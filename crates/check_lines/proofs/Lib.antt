@@ -4,6 +4,7 @@ pub mod Room
 pub mod OwnFirst
 pub mod LinesPassed
 pub mod Answers
+pub mod Fine
 pub mod PhraseLines
 pub mod OwnEntered
 pub mod NumbersOn

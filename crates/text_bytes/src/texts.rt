@@ -45,7 +45,8 @@ fn is_text_byte(b: u8) -> bool
     is_allowed(b)
 }
 
-// Whether every byte is one of a text, byte by byte: for fewer than 8 bytes. The loop does not stop at a byte that is not, which spares a branch for each.
+// Whether every byte is one of a text, byte by byte: for fewer than 8 bytes. The loop does not stop at a byte that is not, which spares a
+// branch for each.
 fn is_text_part(s: &[u8]) -> bool
     ensures { λ r. ⌜ r ≡ all textByte (now (s .entry)) ⌝ }
 {
@@ -92,7 +93,8 @@ fn are_sixteen(s: &[u8], a: usize) -> bool
     good
 }
 
-// Whether every byte is one of a text: 16 at a time, or 8 where there are fewer than 16. The last 16 or 8 end with the text and may be partly tested before, so that no byte is left over.
+// Whether every byte is one of a text: 16 at a time, or 8 where there are fewer than 16. The last 16 or 8 end with the text, so that some of
+// them may be tested twice and none is left over.
 fn are_text_bytes(s: &[u8]) -> bool
     ensures { λ r. ⌜ r ≡ all textByte (now (s .entry)) ⌝ }
 {

@@ -1,22 +1,20 @@
 -- The lines of blocks of an accepted guide have no fewer instructions than the check counts.
 use Prim.Native.Nat.{ℕ, suc, _+_, _≤_}
 use native.Mathlib.Omega.{arith}
-use borrow.Author.Tests.{le-leb}
 use mathlib.Core.Path.{_≡_, ap}
 use mathlib.Core.List.{List, [], _∷_}
-use lib.ListN.{length}
 use Rattle.text.specs.Text.{Text}
 use Rattle.phrases.specs.Lookup.{ownTexts}
 use Rattle.lines.specs.declared.Form.the-variants.{Guide as aGuide}
 use Rattle.lines.specs.declared.Checked.the-variants.{Fine}
 use Rattle.lines.specs.Line.{Line, phrase, says, ifLine, elseLine, fiLine, gotoLine, ifSkipLine, faulty}
-use Rattle.lines.specs.Check.{Seen, nothingSeen, next, linesOf, Accepted}
+use Rattle.lines.specs.Check.{Seen, nothingSeen, next, linesOf}
 use Rattle.lines.specs.Answers.{seenIn, checkedAnswer}
 use Rattle.lines.specs.Clean.{Clean}
 use Rattle.lines.proofs.Valid.{ValidLine, LinesOk}
-use Rattle.lines.proofs.Passes.{Passes, passes-check}
-use Rattle.lines.proofs.Accepts.{Accepts, accepts}
-use Rattle.check_lines.proofs.Answers.{accept-is}
+use Rattle.lines.proofs.Passes.{Passes}
+use Rattle.lines.proofs.Accepts.{Accepts}
+use Rattle.check_lines.proofs.Fine.{fine-accepts, fine-counted}
 use Rattle.guide.specs.Lines.{bodyLines, linesAt}
 use Rattle.guide.proofs.Accepted.{accepted-clean}
 
@@ -54,26 +52,16 @@ abbrev pub Counted : List ℕ → ℕ → ℕ → Type 0
 Counted g own n = (book : List Text) × (checkedAnswer (seenIn aGuide book g) ≡ Fine own n)
 
 module _ (g : List ℕ) (own n : ℕ) (c : Counted g own n) where
-  abbrev held : Accepted
-  held = record { own = ownTexts own g; lines = linesOf aGuide g }
-
-  accepted : Accepts aGuide (c .0) g held
-  accepted = accepts aGuide (c .0) g held (accept-is aGuide g (c .0) (c .1))
-
-  seen-is : accepted .seen .instructions ≡ n
-  unfolding seenIn
-  seen-is =
-      let e = passes-check (c .0) 1 nothingSeen (accepted .seen) (linesOf aGuide g) (accepted .passes) in
-      let k : Fine (length (accepted .seen .own)) (accepted .seen .instructions) ≡ Fine own n = rw (le-leb (length g) 16384 (accepted .size), e) at (c .1) in
-      cc
+  abbrev accepted : Accepts aGuide (c .0) g (record { own = ownTexts own g; lines = linesOf aGuide g })
+  accepted = fine-accepts aGuide (c .0) g (c .1)
 
   -- the lines of blocks have no fewer
   pub guide-counted : n ≤ linesCount (linesAt g 0)
   unfolding linesAt
-  guide-counted = omega (arith, lines-counted (c .0) 1 nothingSeen (accepted .seen) (linesOf aGuide g) (accepted .valid) (accepted .passes), seen-is)
+  guide-counted = omega (arith, lines-counted (c .0) 1 nothingSeen (accepted .seen) (linesOf aGuide g) (accepted .valid) (accepted .passes), fine-counted aGuide (c .0) g (c .1))
 
   pub few-counted : n ≤ 512
-  few-counted = omega (arith, accepted .room, seen-is)
+  few-counted = omega (arith, accepted .room, fine-counted aGuide (c .0) g (c .1))
 
   pub counted-clean : Clean aGuide g
   counted-clean = accepted-clean (c .0) g own n (c .1)

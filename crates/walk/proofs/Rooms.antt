@@ -38,51 +38,51 @@ use Rattle.walk.proofs.Counted.{lineCount, linesCount, Counted, guide-c
 -- ---- what lines still write
 
 -- the statement of a line
-abbrev lineRoom : Line → ℕ
-lineRoom (says x) = length (lineBytes (firstLine x))
-lineRoom (phrase t) = 0
-lineRoom (ifLine test) = 0
-lineRoom elseLine = 0
-lineRoom fiLine = 0
-lineRoom (gotoLine k) = 0
-lineRoom (ifSkipLine test k) = 0
-lineRoom (faulty c) = 0
+abbrev shownByLine : Line → ℕ
+shownByLine (says x) = length (lineBytes (firstLine x))
+shownByLine (phrase t) = 0
+shownByLine (ifLine test) = 0
+shownByLine elseLine = 0
+shownByLine fiLine = 0
+shownByLine (gotoLine k) = 0
+shownByLine (ifSkipLine test k) = 0
+shownByLine (faulty c) = 0
 
-abbrev linesRoom : List Line → ℕ
-linesRoom [] = 0
-linesRoom (l ∷ ls) = lineRoom l + linesRoom ls
+abbrev shownByLines : List Line → ℕ
+shownByLines [] = 0
+shownByLines (l ∷ ls) = shownByLine l + shownByLines ls
 
 -- with 4 bytes for each instruction, what a line of the guide surely has
 abbrev lineSize : Line → ℕ
-lineSize l = lineRoom l + 4 * lineCount l
+lineSize l = shownByLine l + 4 * lineCount l
 
 abbrev linesSize : List Line → ℕ
-linesSize ls = linesRoom ls + 4 * linesCount ls
+linesSize ls = shownByLines ls + 4 * linesCount ls
 
 -- what k leaves is no more than there was
 abbrev Within : Walker → Type 0
-Within k = (s : State) (ls : List Line) → stateRoom (stateOf (k s ls .ending)) + linesRoom (k s ls .lines) ≤ stateRoom s + linesRoom ls
+Within k = (s : State) (ls : List Line) → stateRoom (stateOf (k s ls .ending)) + shownByLines (k s ls .lines) ≤ stateRoom s + shownByLines ls
 
 -- ---- lines passed
 
-drop-room : (ls : List Line) → linesRoom (drop 1 ls) ≤ linesRoom ls
+drop-room : (ls : List Line) → shownByLines (drop 1 ls) ≤ shownByLines ls
 drop-room [] = omega arith
 drop-room (l ∷ ls) = omega arith
 
-pass-room : (d : ℕ) (ls : List Line) → linesRoom (pass d ls) ≤ linesRoom ls
+pass-room : (d : ℕ) (ls : List Line) → shownByLines (pass d ls) ≤ shownByLines ls
 unfolding pass
 pass-room d [] = omega arith
 pass-room d (l ∷ ls) = go (stops (roleOf l) d) (pass-room (openBehind (roleOf l) d) ls)
   where
-    go : (v : Bool) → linesRoom (pass (openBehind (roleOf l) d) ls) ≤ linesRoom ls
-        → linesRoom (elim v [ true ↦ l ∷ ls | false ↦ pass (openBehind (roleOf l) d) ls ]) ≤ linesRoom (l ∷ ls)
+    go : (v : Bool) → shownByLines (pass (openBehind (roleOf l) d) ls) ≤ shownByLines ls
+        → shownByLines (elim v [ true ↦ l ∷ ls | false ↦ pass (openBehind (roleOf l) d) ls ]) ≤ shownByLines (l ∷ ls)
     go true h = omega arith
     go false h = omega arith
 
 -- ---- the walk over lines
 
 follow-room : (e : Ending) (ls : List Line) (k : Walker) → Within k
-    → stateRoom (stateOf (follow e ls k .ending)) + linesRoom (follow e ls k .lines) ≤ stateRoom (stateOf e) + linesRoom ls
+    → stateRoom (stateOf (follow e ls k .ending)) + shownByLines (follow e ls k .lines) ≤ stateRoom (stateOf e) + shownByLines ls
 follow-room (goesOn s) ls k h = h s ls
 follow-room (verdict s) ls k h = omega arith
 follow-room (waits s) ls k h = omega arith
@@ -96,7 +96,7 @@ true-within : Within leaveTrue
 unfolding leaveTrue
 true-within s ls = go (atElse ls)
   where
-    go : (v : Bool) → stateRoom (stateOf (behindTrue v s ls .ending)) + linesRoom (behindTrue v s ls .lines) ≤ stateRoom s + linesRoom ls
+    go : (v : Bool) → stateRoom (stateOf (behindTrue v s ls .ending)) + shownByLines (behindTrue v s ls .lines) ≤ stateRoom s + shownByLines ls
     go true = omega (arith, drop-room (pass 0 (drop 1 ls)), pass-room 0 (drop 1 ls), drop-room ls)
     go false = omega (arith, drop-room ls)
 
@@ -135,7 +135,7 @@ descend-within zero s ls = omega arith
 descend-within (suc n) s ls = go (beginsBy (firstRole ls)) (descend-within n)
   where
     go : (v : Bool) → Within (descend n)
-        → stateRoom (stateOf (blockWith v (descend n) s ls .ending)) + linesRoom (blockWith v (descend n) s ls .lines) ≤ stateRoom s + linesRoom ls
+        → stateRoom (stateOf (blockWith v (descend n) s ls .ending)) + shownByLines (blockWith v (descend n) s ls .lines) ≤ stateRoom s + shownByLines ls
     go true h = next-within (statementWith (descend n)) (descend n) (statement-within (descend n) h) h s ls
     go false h = omega arith
 

@@ -47,15 +47,15 @@ pub fn print_series() {
             "{:<12}{:>8}{:>8}{:>14}{:>9}{:>14}{:>9}",
             "call", "size", "bytes", "ns library", "factor", "ns model", "factor"
         );
-        for &call in calls {
-            let mut before: Option<[f64; 2]> = None;
-            for &size in sizes {
-                let work = subject(size).work(call);
-                let times = times(&work);
-                let now = [times.library, times.model];
-                print_row(&work, size, now, before);
-                before = Some(now);
-            }
+        let works: Vec<Work> = calls
+            .iter()
+            .flat_map(|&call| sizes.iter().map(move |&size| subject(size).work(call)))
+            .collect();
+        let mut before: Option<[f64; 2]> = None;
+        for ((work, times), size) in works.iter().zip(times(&works)).zip(sizes.iter().cycle()) {
+            let now = [times.library, times.model];
+            print_row(work, *size, now, before.filter(|_| *size != sizes[0]));
+            before = Some(now);
         }
         println!();
     }

@@ -1,26 +1,31 @@
 //! The tables of times: with an output that is long enough for every result, and with one as long as the result.
 
-use super::sizes::{self, Size};
-use super::time::times;
+use super::sizes;
+use super::time::{times, Times};
 use super::Work;
 use model::vectors::Call;
 
 pub fn print_times() {
     println!("{}\n", sizes::LEGEND);
-    print_head();
+    print_table(|work| Some(work));
+    println!("\nwith an output as long as the result");
+    print_table(|work| has_two_passes(work.call).then(|| work.exact()));
+}
+
+/// A row for each call at each size, of what `lent` makes of its work.
+fn print_table(lent: fn(Work) -> Option<Work>) {
+    let mut names = Vec::new();
+    let mut works = Vec::new();
     for size in sizes::ALL {
         let subject = (size.subject)();
-        for &call in size.calls {
-            print_row(&size, &subject.work(call));
+        for work in size.calls.iter().filter_map(|&call| lent(subject.work(call))) {
+            names.push(size.name);
+            works.push(work);
         }
     }
-    println!("\nwith an output as long as the result");
     print_head();
-    for size in sizes::ALL {
-        let subject = (size.subject)();
-        for &call in size.calls.iter().filter(|call| has_two_passes(**call)) {
-            print_row(&size, &subject.work(call).exact());
-        }
+    for ((name, work), times) in names.iter().zip(&works).zip(times(&works)) {
+        print_row(name, work, &times);
     }
 }
 
@@ -36,12 +41,11 @@ fn print_head() {
     );
 }
 
-fn print_row(size: &Size, work: &Work) {
-    let times = times(work);
+fn print_row(name: &str, work: &Work, times: &Times) {
     println!(
         "{:<12}{:<9}{:>8}{:>8}{:>14.0}{:>14.0}{:>9.2}{:>12.2}",
         work.call.name(),
-        size.name,
+        name,
         work.input.len(),
         work.book.len(),
         times.library,

@@ -31,32 +31,44 @@ fn now() -> Duration {
 
 /// A measurement repeats the call until it takes at least this.
 const LEAST: Duration = Duration::from_millis(1);
-/// Measurements are repeated for so long, and at least so often.
-const FOR: Duration = Duration::from_millis(400);
+/// In a round, the measurements of a work are repeated for so long, and at least so often.
+const FOR: Duration = Duration::from_millis(300);
 const OFTEN: usize = 7;
+/// All works are measured in so many rounds: what disturbs the machine for a while does not meet every measurement of a work.
+const ROUNDS: usize = 4;
 
-/// Nanoseconds of one call.
+/// Nanoseconds of one call: the least that was measured.
+#[derive(Clone)]
 pub struct Times {
     pub library: f64,
     pub model: f64,
 }
 
+/// Measures each of the works.
+pub fn times(works: &[Work]) -> Vec<Times> {
+    works.iter().for_each(Work::check);
+    let mut least = vec![Times { library: f64::INFINITY, model: f64::INFINITY }; works.len()];
+    for _ in 0..ROUNDS {
+        for (work, least) in works.iter().zip(&mut least) {
+            measure_for(work, least);
+        }
+    }
+    least
+}
+
 /// Measures library and model in turn, so that both meet the same disturbances.
-pub fn times(work: &Work) -> Times {
-    work.check();
-    let repeats = [&Library as &dyn Calls, &Model].map(|calls| (calls, repeats(calls, work)));
-    let mut least = [f64::INFINITY; 2];
+fn measure_for(work: &Work, least: &mut Times) {
+    let sides = [(&Library as &dyn Calls, &mut least.library), (&Model, &mut least.model)];
+    let mut sides = sides.map(|(calls, least)| (calls, repeats(calls, work), least));
     let start = Instant::now();
     let mut rounds = 0;
     while rounds < OFTEN || start.elapsed() < FOR {
-        for ((calls, repeats), least) in repeats.iter().zip(&mut least) {
+        for (calls, repeats, least) in &mut sides {
             let nanoseconds = measure(*calls, work, *repeats).as_secs_f64() * 1e9;
-            *least = least.min(nanoseconds / *repeats as f64);
+            **least = least.min(nanoseconds / f64::from(*repeats));
         }
         rounds += 1;
     }
-    let [library, model] = least;
-    Times { library, model }
 }
 
 /// How many calls take more than `LEAST`.

@@ -5,6 +5,7 @@ use mathlib.Core.List.{List}
 use mathlib.Core.Option.{none, some}
 use lib.ListN.{length}
 use Rattle.causes.specs.Answers.{made, _>>=_, Answer, output, lent}
+use Rattle.causes.specs.Limits.{mostInstructions}
 use Rattle.output.specs.Pour.{poured}
 use Rattle.bits.specs.Bits.{bytesBits, filled}
 use Rattle.text.specs.Text.{Text}
@@ -22,7 +23,7 @@ use Rattle.assemble.specs.LineCode.{linesCode}
 pub record Counted (form : Form) (skips text : List ℕ) (n : ℕ) : Type 0 where
   pub clean : Clean form text
   pub count : n ≡ length (linesCode skips (linesOf form text))
-  pub few : n ≤ 512
+  pub few : n ≤ mostInstructions
 
 -- the plate of a program in a lent buffer: 8, then 10, then 11
 abbrev pub lentProgram : List Text → Program → List ℕ → Answer × List ℕ

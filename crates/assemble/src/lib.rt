@@ -10,6 +10,7 @@ mod line;
 use causes::Cause;
 use causes::Refusal;
 use causes::Written;
+use causes::limits::PLATE_BYTES;
 use line::count_of;
 use line::put;
 use line::skip_at;
@@ -18,6 +19,7 @@ use lines::Form;
 ghost use mathlib.Core.Path.{_≡_};
 ghost use Prim.Native.Nat.{_≤_};
 ghost use lib.ListN.{length};
+ghost use Rattle.causes.specs.Limits.{mostPlateBytes};
 ghost use Rattle.causes.specs.Answers.{writtenAnswer};
 ghost use Rattle.phrases.specs.Lookup.{bookTexts};
 ghost use Rattle.phrases.specs.Own.{Listed};
@@ -42,7 +44,7 @@ fn produce(
     own: usize,
     instructions: usize,
 ) -> Made
-    requires { ⌜ (length (now out) ≤ 2953) × Listed (now index) (now book) (now text) own × Counted form (now skips) (now text) instructions ⌝ }
+    requires { ⌜ (length (now out) ≤ mostPlateBytes) × Listed (now index) (now book) (now text) own × Counted form (now skips) (now text) instructions ⌝ }
     ensures { λ r. ⌜ Produced (bookTexts (now (book .entry))) own (programIn form (now (skips .entry)) (now (text .entry)) own) (now (out .entry)) r (now (out .exit)) ⌝ }
 {
     let mut end = plate_room::put_front(out, text, own, instructions);
@@ -78,7 +80,7 @@ pub fn write(
     requires { ⌜ Listed (now index) (now book) (now text) own × Counted form (now skips) (now text) instructions ⌝ }
     ensures { λ r. ⌜ (writtenAnswer r, now (plate .exit)) ≡ lentProgram (bookTexts (now (book .entry))) (programIn form (now (skips .entry)) (now (text .entry)) own) (now (plate .entry)) ⌝ }
 {
-    let mut array = [0u8; 2953];
+    let mut array = [0u8; PLATE_BYTES];
     match produce(
         &mut array,
         form,

@@ -2,6 +2,7 @@
 ghost use mathlib.Core.Path.{_≡_};
 ghost use Prim.Native.Nat.{_≤_};
 ghost use lib.ListN.{length, getD};
+ghost use Rattle.causes.specs.Limits.{mostPlateBytes};
 ghost use Rattle.output.specs.Pour.{poured};
 ghost use Rattle.bits.specs.Bits.{bytesBits};
 ghost use Rattle.text.specs.Parts.{split, comma};
@@ -78,7 +79,7 @@ pub fn put(
     text: &[u8],
     own: usize,
 ) -> usize
-    requires { ⌜ (length (now out) ≤ 2953) × Listed (now index) (now book) (now text) own × Heads head (now line) ⌝ }
+    requires { ⌜ (length (now out) ≤ mostPlateBytes) × Listed (now index) (now book) (now text) own × Heads head (now line) ⌝ }
     ensures { λ r. ⌜ (r, bytesBits (now (out .exit))) ≡ poured at (instructionsBits (phrasesIn (now (book .entry)) (now (text .entry)) own) (headCode skip head (split comma (now (line .entry))))) (bytesBits (now (out .entry))) ⌝ }
 {
     match head {

@@ -5,6 +5,8 @@ ghost use Rattle.causes.specs.Causes.{number, outcomeNumber};
 // A Cause is a row of document 01's table of causes; a Refusal adds the place. The paper's number for each cause, and its values
 // for each answer, are said in specs/Causes.antt and specs/Answers.antt; every promise of a call is stated through them.
 
+pub mod limits;
+
 // The causes, in the order of their numbers, 1 to 15.
 pub enum Cause {
     // The phrase book: over 256 phrases, a bad or repeated text, no last LF.

@@ -4,7 +4,7 @@ use mathlib.Core.Path.{_≡_}
 use mathlib.Core.List.{List}
 use lib.ListN.{length, take, drop, getD, set}
 use Rattle.phrases.specs.Lookup.{bookTexts}
-use Rattle.phrases.specs.Index.{Indexed}
+use Rattle.phrases.specs.Index.{entriesAt, withOwn, Indexed}
 use Rattle.phrases.specs.Own.{ownNumber, OwnNumbers, OwnKept}
 use Rattle.lines.specs.declared.Head.{Head}
 use Rattle.lines.specs.declared.Head.the-variants as head
@@ -12,7 +12,7 @@ use Rattle.lines.specs.declared.Head.the-variants as head
 -- the numbers behind a line with this head that stands from a to e in the text: that of own phrase k is entered where it is a phrase
 unfoldable pub entered : Head → ℕ → ℕ → ℕ → List ℕ → List ℕ → List ℕ
 entered head.Phrase k a e text index =
-    set index (129 + getD index 0 0 + k) (ownNumber (a + 7) (take (e - (a + 7)) (drop (a + 7) text)))
+    set index (entriesAt + getD index 0 0 + k) (ownNumber (a + 7) (take (e - (a + 7)) (drop (a + 7) text)))
 entered (head.Input r) k a e text index = index
 entered (head.Inputs r n) k a e text index = index
 entered head.Print k a e text index = index
@@ -26,7 +26,7 @@ entered (head.Faulty c) k a e text index = index
 
 -- what the number of own phrase k takes
 pub record Enters (k a e : ℕ) (text index : List ℕ) : Type 0 where
-  pub place : 129 + getD index 0 0 + k < length index
+  pub place : entriesAt + getD index 0 0 + k < length index
   pub near : a + 7 < 4096
   pub start : a + 7 ≤ e
   pub end : e ≤ length text
@@ -37,7 +37,7 @@ pub record Enters (k a e : ℕ) (text index : List ℕ) : Type 0 where
 pub record Numbered (book text first index : List ℕ) (own n a : ℕ) : Type 0 where
   pub indexed : Indexed index book
   pub size : length index ≡ length first
-  pub room : 161 + length (bookTexts book) ≤ length index
+  pub room : withOwn + length (bookTexts book) ≤ length index
   pub numbers : OwnNumbers index book text own
   pub kept : OwnKept book first index
   pub few : own ≤ 32

@@ -11,6 +11,9 @@ ghost use Rattle.lines.specs.Check as check;
 ghost use Rattle.check_lines.specs.Held.{Sound, seenOf, seenWith, lineWith, faultAnswer};
 use crate::seen::Seen;
 use causes::Cause;
+use causes::limits::INSTRUCTIONS;
+use causes::limits::LEVELS;
+use causes::limits::OWN_PHRASES;
 use lines::Head;
 use phrases::Found;
 
@@ -51,7 +54,7 @@ fn phrase_fault(index: &[u32], book: &[u8], text: &[u8], phrase: &[u8], s: Seen)
     if s.instructions != 0 {
         return Fault::Is(Cause::Phrase);
     }
-    if 32 <= s.own {
+    if OWN_PHRASES <= s.own {
         return Fault::Is(Cause::Phrase);
     }
     match phrase_lookup::find_phrase(index, book, text, s.own, phrase) {
@@ -65,7 +68,7 @@ fn phrase_fault(index: &[u32], book: &[u8], text: &[u8], phrase: &[u8], s: Seen)
 fn room_fault(s: Seen) -> Fault
     ensures { λ r. ⌜ r ≡ faultAnswer (check.roomCause (seenOf [] s [])) ⌝ }
 {
-    if s.instructions < 512 {
+    if s.instructions < INSTRUCTIONS {
         return Fault::Absent;
     }
     Fault::Is(Cause::Instructions)
@@ -75,7 +78,7 @@ fn room_fault(s: Seen) -> Fault
 fn if_fault(s: Seen) -> Fault
     ensures { λ r. ⌜ ((os : List ℕ) (x : test.Test) → r ≡ faultAnswer (check.causeOf [] (seenOf [] s os) (line.ifLine x))) ⌝ }
 {
-    if 16 <= s.depth {
+    if LEVELS <= s.depth {
         return Fault::Is(Cause::Nesting);
     }
     room_fault(s)

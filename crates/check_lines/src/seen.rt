@@ -2,6 +2,7 @@
 // The open ifs stand in a lent array of 32 numbers: the line of each, and 16 places behind it a 1 once its `else` has come.
 ghost use Prim.Native.Nat.{ℕ, _<_};
 ghost use mathlib.Core.List.{List};
+ghost use Rattle.causes.specs.Limits.{mostInstructions, mostLevels, mostOwn};
 ghost use Rattle.text.specs.Text.{Text};
 ghost use Rattle.transcript.specs.declared.Test as test;
 ghost use Rattle.lines.specs.Line as line;
@@ -32,7 +33,7 @@ pub fn advance(n: usize, head: Head, s: Seen, opens: &mut [usize; 32]) -> Seen
 }
 
 fn one_more_phrase(s: Seen) -> Seen
-    requires { ⌜ s .own < 32 ⌝ }
+    requires { ⌜ s .own < mostOwn ⌝ }
     ensures { λ r. ⌜ ((n : ℕ) (x : Text) (os : List ℕ) → Sound s os → Advanced (check.next n (line.phrase x)) s os r os) ⌝ }
 {
     let mut t = s;
@@ -41,7 +42,7 @@ fn one_more_phrase(s: Seen) -> Seen
 }
 
 fn one_more_instruction(s: Seen) -> Seen
-    requires { ⌜ s .instructions < 512 ⌝ }
+    requires { ⌜ s .instructions < mostInstructions ⌝ }
     ensures { λ r. ⌜ ((os : List ℕ) → Sound s os → Advanced (λ t. check.oneMoreInstruction (t .ifs) t) s os r os) ⌝ }
 {
     let mut t = s;
@@ -51,7 +52,7 @@ fn one_more_instruction(s: Seen) -> Seen
 
 // One if more, at line n.
 fn opened(n: usize, s: Seen, opens: &mut [usize; 32]) -> Seen
-    requires { ⌜ (s .instructions < 512) × (s .depth < 16) × Sound s (now opens) ⌝ }
+    requires { ⌜ (s .instructions < mostInstructions) × (s .depth < mostLevels) × Sound s (now opens) ⌝ }
     ensures { λ r. ⌜ ((x : test.Test) → Advanced (check.next n (line.ifLine x)) s (now (opens .entry)) r (now (opens .exit))) ⌝ }
 {
     let depth = s.depth;
@@ -65,7 +66,7 @@ fn opened(n: usize, s: Seen, opens: &mut [usize; 32]) -> Seen
 
 // The `else` of the innermost if.
 fn turned(s: Seen, opens: &mut [usize; 32]) -> Seen
-    requires { ⌜ (s .instructions < 512) × (0 < s .depth) × Sound s (now opens) ⌝ }
+    requires { ⌜ (s .instructions < mostInstructions) × (0 < s .depth) × Sound s (now opens) ⌝ }
     ensures { λ r. ⌜ ((n : ℕ) → Advanced (check.next n line.elseLine) s (now (opens .entry)) r (now (opens .exit))) ⌝ }
 {
     let depth = s.depth;

@@ -1,5 +1,5 @@
--- The values of an answer, field by field, as C gets them. "number 0 means accepted (place 0); else it is the cause, and every other field
--- but place is 0."
+-- The values of an answer, field by field, as C gets them: number 0 means accepted, and place is 0 then; else number is the cause's, and
+-- every other field but place is 0.
 use Prim.Native.Nat.{ℕ}
 use mathlib.Core.Path.{_≡_}
 use mathlib.Core.List.{List}

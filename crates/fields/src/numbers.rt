@@ -3,6 +3,7 @@ ghost use mathlib.Core.Path.{_≡_};
 ghost use Prim.Native.Nat.{_+_, _≤_, _<_};
 ghost use lib.ListN.{length};
 ghost use lib.Dec.{leb};
+ghost use Rattle.causes.specs.Limits.{mostPlateBytes};
 ghost use Rattle.bits.specs.Ahead.{aheadIn};
 ghost use Rattle.plate.specs.Reading.{number, judged};
 ghost use Rattle.plate.specs.Plate as reader;
@@ -14,7 +15,7 @@ use causes::Refusal;
 
 // A number of so many bits.
 pub fn read_plain(plate: &[u8], at: usize, width: usize) -> Field
-    requires { ⌜ (width ≤ 32) × (length (now plate) ≤ 2953) ⌝ }
+    requires { ⌜ (width ≤ 32) × (length (now plate) ≤ mostPlateBytes) ⌝ }
     ensures { λ r. ⌜ fieldRead (now (plate .entry)) r ≡ number width (placeAt (now (plate .entry)) at) ⌝ }
 {
     let Number::Is(value) = bits_in::read_number(plate, at, width) else {
@@ -28,7 +29,7 @@ pub fn read_plain(plate: &[u8], at: usize, width: usize) -> Field
 
 // The same of a number that begins k bits behind a bit whose 25 bits were read ahead.
 pub fn plain_ahead(plate: &[u8], ahead: usize, at: usize, k: usize, width: usize) -> Field
-    requires { ⌜ (ahead ≡ aheadIn (now plate) at) × (k + width ≤ 25) × (at + k < 18446744073709551616) × (length (now plate) ≤ 2953) ⌝ }
+    requires { ⌜ (ahead ≡ aheadIn (now plate) at) × (k + width ≤ 25) × (at + k < 18446744073709551616) × (length (now plate) ≤ mostPlateBytes) ⌝ }
     ensures { λ r. ⌜ fieldRead (now (plate .entry)) r ≡ number width (placeAt (now (plate .entry)) (at + k)) ⌝ }
 {
     let place = at + k;
@@ -43,7 +44,7 @@ pub fn plain_ahead(plate: &[u8], ahead: usize, at: usize, k: usize, width: usize
 
 // A number of so many bits; the cause where it is over the most.
 pub fn read_field(plate: &[u8], at: usize, width: usize, most: usize, cause: Cause) -> Field
-    requires { ⌜ (width ≤ 32) × (length (now plate) ≤ 2953) ⌝ }
+    requires { ⌜ (width ≤ 32) × (length (now plate) ≤ mostPlateBytes) ⌝ }
     ensures { λ r. ⌜ fieldRead (now (plate .entry)) r ≡ judged (number width) (λ v. leb v most) cause (placeAt (now (plate .entry)) at) ⌝ }
 {
     let field = read_plain(plate, at, width);
@@ -59,7 +60,7 @@ pub fn read_field(plate: &[u8], at: usize, width: usize, most: usize, cause: Cau
 
 // A skip, over at most so many instructions.
 pub fn read_skip(plate: &[u8], at: usize, behind: usize) -> Field
-    requires { ⌜ length (now plate) ≤ 2953 ⌝ }
+    requires { ⌜ length (now plate) ≤ mostPlateBytes ⌝ }
     ensures { λ r. ⌜ fieldRead (now (plate .entry)) r ≡ reader.skip behind (placeAt (now (plate .entry)) at) ⌝ }
 {
     read_field(plate, at, 9, behind, Cause::Skip)

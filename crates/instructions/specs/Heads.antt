@@ -2,6 +2,7 @@
 use Prim.Native.Nat.{ℕ, _+_, _≤_, _<_}
 use mathlib.Core.Path.{_≡_}
 use mathlib.Core.List.{List}
+use Rattle.causes.specs.Limits.{skips}
 use Rattle.bits.specs.Ahead.{aheadIn}
 use Rattle.transcript.specs.Statement.{input, inputs, print, printex}
 use Rattle.phrases.specs.Phrases.{Phrases}
@@ -28,7 +29,7 @@ HeadFits plate (Input r bit) = r < 32
 HeadFits plate (Inputs r bit) = r < 32
 HeadFits plate (Print bit) = Unit
 HeadFits plate (Printex bit) = Unit
-HeadFits plate (Goto k next) = k < 512
+HeadFits plate (Goto k next) = k < skips
 HeadFits plate (IfSkip bit ahead) = (bit ≤ 23624) × (ahead ≡ aheadIn plate bit)
 
 -- the instruction that was read; nothing asks it of a refusal

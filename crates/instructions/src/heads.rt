@@ -2,6 +2,7 @@
 ghost use mathlib.Core.Path.{_≡_};
 ghost use Prim.Native.Nat.{ℕ, _+_, _*_, _≤_, _<_};
 ghost use lib.ListN.{length};
+ghost use Rattle.causes.specs.Limits.{mostPlateBits, mostPlateBytes, skips};
 ghost use Rattle.bits.specs.Ahead.{aheadIn, partAhead};
 ghost use Rattle.phrases.specs.Phrases.{Phrases};
 ghost use Rattle.phrases.specs.Lookup.{phrasesIn};
@@ -22,7 +23,7 @@ use transcript::Test;
 
 // An if with a constant of 32 bits, whose upper half was read: the lower half and the skip are 25 bits more.
 fn long_if(plate: &[u8], at: usize, register: usize, op: Op, high: usize) -> IfRead
-    requires { ⌜ (length (now plate) ≤ 2953) × (at ≤ 23624) × (high < 65536) ⌝ }
+    requires { ⌜ (length (now plate) ≤ mostPlateBytes) × (at ≤ mostPlateBits) × (high < 65536) ⌝ }
     ensures { λ r. ⌜ (r .test .register ≡ register) × (r .test .op ≡ op) × (r .test .constant ≡ signed 32 (high * 65536 + partAhead 0 16 (aheadIn (now (plate .entry)) (at + 29)))) ⌝ }
     ensures { λ r. ⌜ (r .skip ≡ partAhead 16 9 (aheadIn (now (plate .entry)) (at + 29))) × (r .next ≡ at + 54) ⌝ }
 {
@@ -46,9 +47,9 @@ fn long_if(plate: &[u8], at: usize, register: usize, op: Op, high: usize) -> IfR
 // An if that was read before, at its bit, with the 25 bits that were read ahead there: its register, OP and the code of its constant lie in
 // these. A short constant and the skip are 25 bits more.
 pub fn accepted_if(plate: &[u8], at: usize, ahead: usize) -> IfRead
-    requires { ⌜ (length (now plate) ≤ 2953) × (at ≤ 23624) × (ahead ≡ aheadIn (now plate) at) ⌝ }
+    requires { ⌜ (length (now plate) ≤ mostPlateBytes) × (at ≤ mostPlateBits) × (ahead ≡ aheadIn (now plate) at) ⌝ }
     ensures { λ r. ⌜ ((c : Phrases) (behind : ℕ) → Known (fieldsBy c behind 5 (placeAt (now (plate .entry)) (at + 3))) → got (ifSkip (r .test) (r .skip)) (placeAt (now (plate .entry)) (r .next)) ≡ fieldsBy c behind 5 (placeAt (now (plate .entry)) (at + 3))) ⌝ }
-    ensures { λ r. ⌜ (r .test .register < 32) × (r .skip < 512) ⌝ }
+    ensures { λ r. ⌜ (r .test .register < 32) × (r .skip < skips) ⌝ }
 {
     let register = bits_ahead::part_ahead(ahead, 3, 5);
     let op = op_of(bits_ahead::part_ahead(ahead, 8, 3));
@@ -72,7 +73,7 @@ pub fn accepted_if(plate: &[u8], at: usize, ahead: usize) -> IfRead
 
 // The head of an instruction: its code, and the fields in front of its texts, but those of an if.
 pub fn accepted_head(plate: &[u8], at: usize) -> Head
-    requires { ⌜ (length (now plate) ≤ 2953) × (at ≤ 23624) ⌝ }
+    requires { ⌜ (length (now plate) ≤ mostPlateBytes) × (at ≤ mostPlateBits) ⌝ }
     ensures { λ r. ⌜ ((c : Phrases) (behind : ℕ) → Known (instruction c behind (placeAt (now (plate .entry)) at)) → headed (now (plate .entry)) c r ≡ instruction c behind (placeAt (now (plate .entry)) at)) ⌝ }
     ensures { λ r. ⌜ HeadFits (now (plate .entry)) r ⌝ }
 {

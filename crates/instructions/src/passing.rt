@@ -14,6 +14,7 @@ ghost use mathlib.Core.Path.{_≡_};
 ghost use mathlib.Core.List.{List};
 ghost use Prim.Native.Nat.{ℕ, _≤_};
 ghost use lib.ListN.{length};
+ghost use Rattle.causes.specs.Limits.{mostPlateBytes};
 ghost use Rattle.output.specs.Pour.{upTo};
 ghost use Rattle.phrases.specs.Lookup.{phrasesIn};
 ghost use Rattle.plate.specs.Plate.{fieldsBy, instruction};
@@ -69,7 +70,7 @@ fn pass_inputs<'a>(
 
 // goto: skip.
 fn pass_goto(plate: &[u8], at: usize, behind: usize) -> Field
-    requires { ⌜ length (now plate) ≤ 2953 ⌝ }
+    requires { ⌜ length (now plate) ≤ mostPlateBytes ⌝ }
     ensures { λ r. ⌜ ((book own : List ℕ) (count : ℕ) → fieldRead (now (plate .entry)) r ≡ measured (λ i. upTo (lineRoom i)) (fieldsBy (phrasesIn book own count) behind 4 (placeAt (now (plate .entry)) at))) ⌝ }
 {
     let first = read_skip(plate, at, behind);
@@ -81,7 +82,7 @@ fn pass_goto(plate: &[u8], at: usize, behind: usize) -> Field
 
 // if: register, OP, constant, skip.
 fn pass_if(plate: &[u8], at: usize, behind: usize) -> Field
-    requires { ⌜ length (now plate) ≤ 2953 ⌝ }
+    requires { ⌜ length (now plate) ≤ mostPlateBytes ⌝ }
     ensures { λ r. ⌜ ((book own : List ℕ) (count : ℕ) → fieldRead (now (plate .entry)) r ≡ measured (λ i. upTo (lineRoom i)) (fieldsBy (phrasesIn book own count) behind 5 (placeAt (now (plate .entry)) at))) ⌝ }
 {
     let first = read_test(plate, at);

@@ -7,6 +7,7 @@ use mathlib.Core.Option.{Option, none, some}
 use lib.ListN.{length, drop}
 use lib.Dec.{leb, ltb, eqb}
 use Rattle.causes.specs.Answers.{Result, made, refused, _>>=_}
+use Rattle.causes.specs.Limits.{mostGuideBytes, mostListingBytes, mostOwn, mostLevels, mostInstructions}
 use Rattle.causes.specs.declared.Cause.{Cause}
 use Rattle.causes.specs.declared.Cause.the-variants.{TooLong, Phrase, Nesting, Instructions}
 use Rattle.text.specs.Parts.{split, LF}
@@ -44,13 +45,13 @@ nothingSeen = record { own = []; instructions = 0; ifs = [] }
 
 -- "513th instruction (an else line is one)": 9
 abbrev pub roomCause : Seen → Option Cause
-roomCause s = cond (ltb (s .instructions) 512) none (some Instructions)
+roomCause s = cond (ltb (s .instructions) mostInstructions) none (some Instructions)
 
 -- "phrase late, 33rd, or repeated": 6. A line of another kind came before where there is an instruction, since the first such
 -- line that is no fault is one
 abbrev pub phraseCause : List Text → Seen → Text → Option Cause
 phraseCause book s t =
-    cond (eqb (s .instructions) 0 && ltb (length (s .own)) 32 && isNew book (s .own) t) none (some Phrase)
+    cond (eqb (s .instructions) 0 && ltb (length (s .own)) mostOwn && isNew book (s .own) t) none (some Phrase)
 
 -- "else .. without its if, second else": 7
 abbrev pub elseCause : List Open → Option Cause → Option Cause
@@ -67,7 +68,7 @@ abbrev pub causeOf : List Text → Seen → Line → Option Cause
 causeOf book s (phrase t) = phraseCause book s t
 causeOf book s (says x) = roomCause s
 -- "17th level": 7
-causeOf book s (ifLine t) = cond (ltb (length (s .ifs)) 16) (roomCause s) (some Nesting)
+causeOf book s (ifLine t) = cond (ltb (length (s .ifs)) mostLevels) (roomCause s) (some Nesting)
 causeOf book s elseLine = elseCause (s .ifs) (roomCause s)
 causeOf book s fiLine = fiCause (s .ifs)
 causeOf book s (gotoLine k) = roomCause s
@@ -107,8 +108,8 @@ checkFrom book n s (l ∷ ls) =
 
 -- "A guide has at most 16,384 bytes"; a listing "at most 327,680 bytes"
 abbrev pub mostBytes : Form → ℕ
-mostBytes Guide = 16384
-mostBytes Listing = 327680
+mostBytes Guide = mostGuideBytes
+mostBytes Listing = mostListingBytes
 
 -- the lines of a text
 abbrev pub linesOf : Form → List ℕ → List Line

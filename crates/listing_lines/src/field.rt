@@ -2,6 +2,7 @@
 ghost use mathlib.Core.Path.{_≡_};
 ghost use mathlib.Core.List.{_∷_};
 ghost use Prim.Native.Nat.{_<_};
+ghost use Rattle.causes.specs.Limits.{skips};
 ghost use Rattle.text.specs.Parts.{comma};
 ghost use Rattle.decimals.specs.Number.{decimalℕ, decimal};
 ghost use Rattle.output.specs.Pour.{poured};
@@ -10,7 +11,7 @@ use transcript::Op;
 
 // A register or a skip.
 pub fn put_natural(out: &mut [u8], at: usize, n: usize) -> usize
-    requires { ⌜ n < 512 ⌝ }
+    requires { ⌜ n < skips ⌝ }
     ensures { λ r. ⌜ (r, now (out .exit)) ≡ poured at (comma ∷ decimalℕ n) (now (out .entry)) ⌝ }
 {
     let end = text_out::put_byte(out, at, b',');

@@ -6,6 +6,7 @@ mod field;
 ghost use mathlib.Core.Path.{_≡_};
 ghost use mathlib.Core.List.{[], _∷_, _++_};
 ghost use Prim.Native.Nat.{_<_};
+ghost use Rattle.causes.specs.Limits.{skips};
 ghost use Rattle.output.specs.Pour.{poured};
 ghost use Rattle.text.specs.Parts.{comma, LF};
 ghost use Rattle.decimals.specs.Number.{decimalℕ};
@@ -159,7 +160,7 @@ fn put_inputs<'a>(
 
 // `goto,SKIP`.
 fn put_goto(skip: usize, tail: &mut [u8]) -> usize
-    requires { ⌜ skip < 512 ⌝ }
+    requires { ⌜ skip < skips ⌝ }
     ensures { λ r. ⌜ (r, now (tail .exit)) ≡ poured 0 (linesText (instructionFields (goto skip) ∷ [])) (now (tail .entry)) ⌝ }
 {
     let skip_at = text_out::put(tail, 0, b"goto");
@@ -169,7 +170,7 @@ fn put_goto(skip: usize, tail: &mut [u8]) -> usize
 
 // `if,R,OP,C,SKIP`.
 fn put_if(test: Test, skip: usize, tail: &mut [u8]) -> usize
-    requires { ⌜ (test .register < 32) × (skip < 512) ⌝ }
+    requires { ⌜ (test .register < 32) × (skip < skips) ⌝ }
     ensures { λ r. ⌜ (r, now (tail .exit)) ≡ poured 0 (linesText (instructionFields (ifSkip test skip) ∷ [])) (now (tail .entry)) ⌝ }
 {
     let register = test.register;

@@ -3,6 +3,7 @@
 // bytes, and its line 5,913.
 use causes::Refusal;
 use causes::Written;
+use causes::limits::PLATE_BYTES;
 use libc::STDERR_FILENO;
 use libc::STDOUT_FILENO;
 use printed::front;
@@ -21,7 +22,7 @@ fn refuse(r: Refusal) {
 
 // What is printed of the listing.
 fn print(listing: &[u8], book: &[u8]) {
-    let mut plate = [0; 2953];
+    let mut plate = [0; PLATE_BYTES];
     match write_plate::write_plate(listing, book, &mut plate) {
         Written::Refused(r) => refuse(r),
         Written::Done(length) => {

@@ -5,7 +5,6 @@
 mod compare;
 mod report;
 
-pub use compare::compares;
 pub use compare::holds;
 pub use report::report_of;
 pub use report::see_answers;

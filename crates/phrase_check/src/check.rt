@@ -4,10 +4,11 @@ ghost use Prim.Native.Nat.{ℕ, _≤_};
 ghost use lib.ListN.{length};
 ghost use Rattle.phrases.specs.Book.{isNext};
 ghost use Rattle.phrases.specs.Lookup.{bookTexts};
-ghost use Rattle.phrases.specs.Index.{key, bookCheck, Indexed};
+ghost use Rattle.phrases.specs.Index.{key, bookCheck, Indexed, bookNumbers};
 ghost use Rattle.phrases.specs.declared.Book.the-variants.{Holds};
 use crate::numbers::clear;
 use crate::numbers::enter;
+use causes::limits::PHRASES;
 use phrases::Book;
 use phrases::Place;
 use phrases::count_of;
@@ -20,7 +21,7 @@ fn is_next(index: &[u32], earlier: &[u8], weight: usize, line: &[u8]) -> bool
     requires { ⌜ Indexed (now index) (now earlier) × (weight ≡ key (now line)) ⌝ }
     ensures { λ r. ⌜ r ≡ isNext (bookTexts (now (earlier .entry))) (now (line .entry)) ⌝ }
 {
-    if 256 <= count_of(index) {
+    if PHRASES <= count_of(index) {
         return false;
     }
     if text_bytes::is_text(line) {
@@ -35,7 +36,7 @@ fn is_next(index: &[u32], earlier: &[u8], weight: usize, line: &[u8]) -> bool
 
 // How many phrases a book has, or its first bad line; a last line without LF is bad. The index is that of the good lines in front of it.
 pub fn check_book(book: &[u8], index: &mut [u32]) -> Book
-    requires { ⌜ 385 ≤ length (now index) ⌝ }
+    requires { ⌜ bookNumbers ≤ length (now index) ⌝ }
     ensures { λ r. ⌜ (r, now (index .exit)) ≡ bookCheck (now (book .entry)) (now (index .entry)) ⌝ }
     ensures { λ r. ⌜ ((n : ℕ) → r ≡ Holds n → Indexed (now (index .exit)) (now (book .entry))) ⌝ }
 {

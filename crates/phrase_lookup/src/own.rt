@@ -4,28 +4,32 @@ ghost use Prim.Native.Nat.{_+_, _<_};
 ghost use lib.ListN.{length, getD, set};
 ghost use Rattle.phrases.specs.Phrases as phrases;
 ghost use Rattle.phrases.specs.Lookup.{ownTexts, placeAnswer};
-ghost use Rattle.phrases.specs.Index.{key, Indexed};
-ghost use Rattle.phrases.specs.Own.{ownNumber, ownText, OwnAt, OwnNumbers};
+ghost use Rattle.phrases.specs.Index.{key, Indexed, entriesAt};
+ghost use Rattle.phrases.specs.Own.{ownNumber, ownText, OwnAt, OwnNumbers, ownPlaces, ownSizes};
 use crate::signs::find_sign;
+use phrases::ENTRIES_AT;
+use phrases::OWN_KEYS;
+use phrases::OWN_PLACES;
+use phrases::OWN_SIZES;
 use phrases::Place;
 use phrases::count_of;
 use phrases::key_of;
 
 // Enters the number of own phrase k, whose text starts at a place.
 pub fn enter_own(index: &mut [u32], k: usize, at: usize, text: &[u8])
-    requires { ⌜ (129 + getD (now index) 0 0 + k < length (now index)) × (at < 4096) × (length (now text) < 128) ⌝ }
-    ensures { λ _. ⌜ now (index .exit) ≡ set (now (index .entry)) (129 + getD (now (index .entry)) 0 0 + k) (ownNumber at (now (text .entry))) ⌝ }
+    requires { ⌜ (entriesAt + getD (now index) 0 0 + k < length (now index)) × (at < ownPlaces) × (length (now text) < ownSizes) ⌝ }
+    ensures { λ _. ⌜ now (index .exit) ≡ set (now (index .entry)) (entriesAt + getD (now (index .entry)) 0 0 + k) (ownNumber at (now (text .entry))) ⌝ }
 {
-    let place = 129 + count_of(index) + k;
-    index[place] = ((key_of(text) % 8192 * 128 + text.len()) * 4096 + at) as u32;
+    let place = ENTRIES_AT + count_of(index) + k;
+    index[place] = ((key_of(text) % OWN_KEYS * OWN_SIZES + text.len()) * OWN_PLACES + at) as u32;
 }
 
 // The number of own phrase k.
 fn number_of(index: &[u32], k: usize) -> usize
-    requires { ⌜ 129 + getD (now index) 0 0 + k < length (now index) ⌝ }
-    ensures { λ r. ⌜ r ≡ getD (now (index .entry)) (129 + getD (now (index .entry)) 0 0 + k) 0 ⌝ }
+    requires { ⌜ entriesAt + getD (now index) 0 0 + k < length (now index) ⌝ }
+    ensures { λ r. ⌜ r ≡ getD (now (index .entry)) (entriesAt + getD (now (index .entry)) 0 0 + k) 0 ⌝ }
 {
-    index[129 + count_of(index) + k] as usize
+    index[ENTRIES_AT + count_of(index) + k] as usize
 }
 
 // Own phrase k, which stands where its number says.
@@ -34,8 +38,8 @@ pub fn own_at<'a, 'b, 'c>(index: &'b [u32], book: &'c [u8], own: &'a [u8], k: us
     ensures { λ r. ⌜ now r ≡ ownText (now (own .entry)) k ⌝ }
 {
     let number = number_of(index, k);
-    let a = number % 4096;
-    let e = a + number / 4096 % 128;
+    let a = number % OWN_PLACES;
+    let e = a + number / OWN_PLACES % OWN_SIZES;
     &own[a..e]
 }
 
@@ -52,8 +56,8 @@ pub fn find_own(
     requires { ⌜ Indexed (now index) (now book) × OwnNumbers (now index) (now book) (now own) count × (weight ≡ key (now text)) ⌝ }
     ensures { λ r. ⌜ r ≡ placeAnswer (phrases.place (ownTexts count (now (own .entry))) (now (text .entry))) ⌝ }
 {
-    let wanted = (weight % 8192 * 128 + text.len() % 128) as u32;
-    let first = 129 + count_of(index);
+    let wanted = (weight % OWN_KEYS * OWN_SIZES + text.len() % OWN_SIZES) as u32;
+    let first = ENTRIES_AT + count_of(index);
     let end = first + count;
     let numbers = &index[first..end];
     let mut k = 0;

@@ -11,7 +11,7 @@ use lib.Dec.{eqb, ltb}
 use borrow.Author.Tests.{eqb-true, eqb-false, ltb-true, ltb-false}
 use Rattle.text.specs.Parts.{same}
 use Rattle.text.specs.Text.{Text}
-use Rattle.text.proofs.Tests.{same-equal, same-when}
+use Rattle.text.proofs.Tests.{same-equal, same-when, same-other}
 use Rattle.phrases.specs.Phrases.{place}
 use Rattle.phrases.specs.Index.{key, listOf, lastOf, Different}
 use Rattle.phrases.proofs.Stands.{not-first}
@@ -19,19 +19,11 @@ use Rattle.phrases.proofs.Heads.{Last, last-is, last-whole}
 
 -- ---- texts that differ
 
--- what holds of a text where it is not the same as another
-pub differs : (t p : Text) → (t ≡ p → ⊥) → same t p ≡ false
-differs t p h = go (same t p) refl
-  where
-    go : (v : Bool) → same t p ≡ v → v ≡ false
-    go true e = absurd (h (same-equal t p e))
-    go false e = refl
-
 pub other-key : (t p : Text) → (key t ≡ key p → ⊥) → same t p ≡ false
-other-key t p h = differs t p (λ e. h (ap key e))
+other-key t p h = same-other t p (λ e. h (ap key e))
 
 other-way : (t p : Text) → same t p ≡ false → same p t ≡ false
-other-way t p h = differs p t (λ e. true≢false (sym (same-when t p (sym e)) ∙ h))
+other-way t p h = same-other p t (λ e. true≢false (sym (same-when t p (sym e)) ∙ h))
 
 -- ---- the place of a text, by what holds of each text
 
@@ -80,7 +72,7 @@ pub record Searched (ts : List Text) (t : Text) (next : ℕ) : Type 0 where
 
 module _ (ts : List Text) (t : Text) where
   not-listed : (p : Text) → (listOf (key p) ≡ listOf (key t) → ⊥) → same t p ≡ false
-  not-listed p h = differs t p (λ e. h (ap (λ s. listOf (key s)) (sym e)))
+  not-listed p h = same-other t p (λ e. h (ap (λ s. listOf (key s)) (sym e)))
 
   pub search-starts : Searched ts t (lastOf (listOf (key t)) ts)
   search-starts =
@@ -95,7 +87,7 @@ module _ (ts : List Text) (t : Text) where
     search-found d e =
         let within : next - 1 < length ts = omega (arith, s .bound) in
         place-first ts t (next - 1) within e
-        (λ j h. differs _ _ (λ is. true≢false (sym (same-when _ _ (sym is ∙ same-equal _ _ e)) ∙ d j (next - 1) h within)))
+        (λ j h. same-other _ _ (λ is. true≢false (sym (same-when _ _ (sym is ∙ same-equal _ _ e)) ∙ d j (next - 1) h within)))
 
     pub search-goes : same t (getD ts (next - 1) []) ≡ false
         → Searched ts t (lastOf (listOf (key (getD ts (next - 1) []))) (take (next - 1) ts))

@@ -11,12 +11,13 @@ use lib.Dec.{eqb}
 use borrow.Author.Tests.{eqb-true, eqb-false}
 use Rattle.text.specs.Parts.{split, same, LF}
 use Rattle.text.specs.Text.{Text}
+use Rattle.text.proofs.Tests.{same-other}
 use Rattle.phrases.specs.Phrases.{place}
 use Rattle.phrases.specs.Lookup.{bookTexts, phraseText, ownTexts}
 use Rattle.phrases.specs.Index.{key, indexOf, Indexed}
 use Rattle.phrases.specs.Own.{signOf, ownNumber, ownText, OwnAt, OwnNumbers, OwnKept}
 use Rattle.phrases.proofs.Entries.{index-length, indexed-count}
-use Rattle.phrases.proofs.Keys.{differs, place-first, place-absent}
+use Rattle.phrases.proofs.Keys.{place-first, place-absent}
 
 -- ---- a number's parts
 
@@ -68,7 +69,7 @@ module _ (index book own : List ℕ) (k : ℕ) (i : Indexed index book) (o : Own
   pub other-sign : (t : Text) (weight : ℕ) → weight ≡ key t
       → (getD index (129 + getD index 0 0 + k) 0 / 4096 ≡ signOf weight (length t) → ⊥) → same t (ownText own k) ≡ false
   other-sign t weight w h =
-      differs t (ownText own k) (λ e. h (own-sign ∙ ap (λ u. signOf (key u) (length u)) (sym e) ∙ ap (λ v. signOf v (length t)) (sym w)))
+      same-other t (ownText own k) (λ e. h (own-sign ∙ ap (λ u. signOf (key u) (length u)) (sym e) ∙ ap (λ v. signOf v (length t)) (sym w)))
 
 -- own phrase k is the k-th of the first `count`
 pub own-text : (count : ℕ) (own : List ℕ) (k : ℕ) → k < count → getD (ownTexts count own) k [] ≡ ownText own k

@@ -5,6 +5,7 @@ use mathlib.Core.Bool.{Bool, true, false, _&&_}
 use lib.ListN.{length}
 use lib.Dec.{ltb}
 use Rattle.causes.specs.Answers.{Result, made, refused}
+use Rattle.causes.specs.Limits.{mostPhrases}
 use Rattle.causes.specs.declared.Cause.the-variants.{Book}
 use Rattle.text.specs.Parts.{split, LF}
 use Rattle.text.specs.Text.{Text, isText}
@@ -12,7 +13,7 @@ use Rattle.phrases.specs.Phrases.{isNew}
 
 -- a good line behind the earlier phrases: a text, different from each of them, and not the 257th
 abbrev pub isNext : List Text → Text → Bool
-isNext earlier t = isText t && isNew [] earlier t && ltb (length earlier) 256
+isNext earlier t = isText t && isNew [] earlier t && ltb (length earlier) mostPhrases
 
 -- what stands behind the last LF: nothing, or a last line without LF, which is bad
 abbrev pub bookEnd : List Text → Text → Result (List Text)

@@ -9,12 +9,43 @@ use mathlib.Core.Bool.{false, cond}
 use lib.ListN.{length, take, getD}
 use lib.Dec.{eqb}
 use Rattle.causes.specs.Answers.{made}
+use Rattle.causes.specs.Limits.{mostPhrases}
 use Rattle.text.specs.Parts.{same}
 use Rattle.text.specs.Text.{Text}
 use Rattle.output.specs.Pour.{pour}
 use Rattle.phrases.specs.Book.{bookPhrases, goodTexts}
 use Rattle.phrases.specs.Lookup.{bookTexts, bookAnswer}
 use Rattle.phrases.specs.declared.Book as answer
+
+-- ---- the layout: how many numbers there are of each kind
+
+-- the lists
+abbrev pub lists : ℕ
+lists = 128
+
+-- the number of texts and the lists stand in front of the entries
+abbrev pub entriesAt : ℕ
+entriesAt = 129
+
+-- the index of a book of 256 texts
+abbrev pub bookNumbers : ℕ
+bookNumbers = 385
+
+-- what stands in front of the entries, and the numbers of 32 own phrases
+abbrev pub withOwn : ℕ
+withOwn = 161
+
+-- an entry has a part of a key, the number of a text, and a place in the book: how many of each there are
+abbrev pub entryKeys : ℕ
+entryKeys = 256
+
+abbrev pub entryTexts : ℕ
+entryTexts = 512
+
+abbrev pub entryPlaces : ℕ
+entryPlaces = 32768
+
+-- ---- the numbers
 
 -- the sum of bytes, each times its place; the first is at the place i
 unfoldable pub weigh : ℕ → List ℕ → ℕ
@@ -27,11 +58,11 @@ key t = weigh 1 (take 64 t)
 
 -- the list of a text, by its key
 abbrev pub listOf : ℕ → ℕ
-listOf k = k % 128
+listOf k = k % lists
 
 -- the part of a key that stands in an entry
 abbrev pub partOf : ℕ → ℕ
-partOf k = k / 128 % 256
+partOf k = k / lists % entryKeys
 
 -- the last text of a list, where `before` texts stand in front of these and `found` is the last of the list among them
 unfoldable pub lastFrom : ℕ → ℕ → ℕ → List Text → ℕ
@@ -49,7 +80,7 @@ lastsFrom list (suc n) ts = lastOf list ts ∷ lastsFrom (suc list) n ts
 
 -- the entry of a text that starts at a place, behind the text `before` of its list
 unfoldable pub entry : ℕ → ℕ → Text → ℕ
-entry at before t = (partOf (key t) * 512 + before) * 32768 + at
+entry at before t = (partOf (key t) * entryTexts + before) * entryPlaces + at
 
 -- the entries of texts that stand one behind the other from a place on, each ended by LF, behind earlier ones
 unfoldable pub entriesFrom : ℕ → List Text → List Text → List ℕ
@@ -59,7 +90,7 @@ entriesFrom at earlier (t ∷ ts) =
 
 -- the index of texts
 unfoldable pub indexOf : List Text → List ℕ
-indexOf ts = length ts ∷ (lastsFrom 0 128 ts ++ entriesFrom 0 [] ts)
+indexOf ts = length ts ∷ (lastsFrom 0 lists ts ++ entriesFrom 0 [] ts)
 
 -- the check of a book, which leaves the index of the good lines in lent numbers
 abbrev pub bookCheck : List ℕ → List ℕ → answer.Book × List ℕ
@@ -79,12 +110,12 @@ Different ts = (i j : ℕ) → i < j → j < length ts → same (getD ts i []) (
 pub record Indexed (index book : List ℕ) : Type 0 where
   pub entries : take (length (indexOf (bookTexts book))) index ≡ indexOf (bookTexts book)
   pub different : Different (bookTexts book)
-  pub few : length (bookTexts book) ≤ 256
+  pub few : length (bookTexts book) ≤ mostPhrases
   pub whole : behind 0 (bookTexts book) ≡ length book
-  pub short : length book < 32768
+  pub short : length book < entryPlaces
 
 -- a book whose check found no bad line, with its index, and room for 32 numbers behind it
 pub record CheckedBook (index book : List ℕ) : Type 0 where
   pub indexed : Indexed index book
-  pub room : 161 + length (bookTexts book) ≤ length index
+  pub room : withOwn + length (bookTexts book) ≤ length index
   pub phrases : bookPhrases book ≡ made (bookTexts book)

@@ -7,6 +7,13 @@ ghost use Rattle.text.specs.Parts.{same};
 ghost use Rattle.phrases.specs.Phrases as phrases;
 ghost use Rattle.phrases.specs.Lookup.{bookTexts, placeAnswer};
 ghost use Rattle.phrases.specs.Index.{key, behind, Indexed};
+use crate::layout::ENTRIES_AT;
+use crate::layout::ENTRY_KEYS;
+use crate::layout::ENTRY_PARTS_AT;
+use crate::layout::ENTRY_PLACES;
+use crate::layout::ENTRY_TEXTS;
+use crate::layout::LISTS;
+use crate::layout::SECOND_ENTRY_AT;
 
 // The place of a text among texts, from 0.
 pub enum Place {
@@ -34,7 +41,7 @@ fn end_of(index: &[u32], book: &[u8], k: usize) -> usize
     ensures { λ r. ⌜ r ≡ behind 0 (take k (bookTexts (now (book .entry)))) + length (getD (bookTexts (now (book .entry))) k []) ⌝ }
 {
     if k + 1 < index[0] as usize {
-        index[130 + k] as usize % 32768 - 1
+        index[SECOND_ENTRY_AT + k] as usize % ENTRY_PLACES - 1
     } else {
         book.len() - 1
     }
@@ -45,7 +52,7 @@ pub fn text_of<'a, 'b>(index: &'b [u32], book: &'a [u8], k: usize) -> &'a [u8]
     requires { ⌜ Indexed (now index) (now book) × (k < length (bookTexts (now book))) ⌝ }
     ensures { λ r. ⌜ now r ≡ getD (bookTexts (now (book .entry))) k [] ⌝ }
 {
-    let a = index[129 + k] as usize % 32768;
+    let a = index[ENTRIES_AT + k] as usize % ENTRY_PLACES;
     let e = end_of(index, book, k);
     &book[a..e]
 }
@@ -55,7 +62,7 @@ fn is_at(index: &[u32], book: &[u8], k: usize, weight: usize, text: &[u8]) -> bo
     requires { ⌜ Indexed (now index) (now book) × (k < length (bookTexts (now book))) × (weight ≡ key (now text)) ⌝ }
     ensures { λ r. ⌜ r ≡ same (now (text .entry)) (getD (bookTexts (now (book .entry))) k []) ⌝ }
 {
-    if index[129 + k] as usize / 16777216 != weight / 128 % 256 {
+    if index[ENTRIES_AT + k] as usize / ENTRY_PARTS_AT != weight / LISTS % ENTRY_KEYS {
         return false;
     }
     text_parts::same(text, text_of(index, book, k))
@@ -66,12 +73,12 @@ pub fn find_keyed(index: &[u32], book: &[u8], weight: usize, text: &[u8]) -> Pla
     requires { ⌜ Indexed (now index) (now book) × (weight ≡ key (now text)) ⌝ }
     ensures { λ r. ⌜ r ≡ placeAnswer (phrases.place (bookTexts (now (book .entry))) (now (text .entry))) ⌝ }
 {
-    let mut next = index[weight % 128 + 1] as usize;
+    let mut next = index[weight % LISTS + 1] as usize;
     while next != 0 {
         if is_at(index, book, next - 1, weight, text) {
             return Place::At(next - 1);
         }
-        next = index[128 + next] as usize / 32768 % 512;
+        next = index[LISTS + next] as usize / ENTRY_PLACES % ENTRY_TEXTS;
     }
     Place::Missing
 }

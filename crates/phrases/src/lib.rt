@@ -6,6 +6,7 @@
 // Each contract says the whole answer by a definition of specs/. `width_of` takes at most 65,536 phrases.
 // `text_of` returns a part of the book, never a copy; it takes a place only where there is a text.
 mod index;
+mod layout;
 mod numbers;
 mod widths;
 
@@ -13,6 +14,16 @@ pub use index::Place;
 pub use index::find_keyed;
 pub use index::key_of;
 pub use index::text_of;
+pub use layout::EMPTY_INDEX_NUMBERS;
+pub use layout::ENTRIES_AT;
+pub use layout::ENTRY_KEYS;
+pub use layout::ENTRY_PLACES;
+pub use layout::ENTRY_TEXTS;
+pub use layout::INDEX_NUMBERS;
+pub use layout::LISTS;
+pub use layout::OWN_KEYS;
+pub use layout::OWN_PLACES;
+pub use layout::OWN_SIZES;
 pub use numbers::count_of;
 pub use widths::width_of;
 

@@ -6,6 +6,7 @@ use lib.ListN.{length, getD}
 use lib.Dec.{leb, ltb, eqb}
 use lib.IntN.{ℤ, pos, negsuc}
 use Rattle.causes.specs.Answers.{Result, made, refused}
+use Rattle.causes.specs.Limits.{mostInstructions, mostPlateBytes}
 use Rattle.causes.specs.declared.Cause.the-variants.{PlateTooLong, PlateEnds, Unused, Spelling, Skip, Filling}
 use Rattle.bits.specs.Bits.{bytesBits}
 use Rattle.text.specs.Text.{Text, textByte, textSize}
@@ -200,7 +201,7 @@ unfoldable pub program : List Text → Reader Program
 program book = do
   k ← ownCount
   own ← ownFrom book [] k
-  n ← judged (number 10) (λ n. leb n 512) Unused
+  n ← judged (number 10) (λ n. leb n mostInstructions) Unused
   is ← many (instruction (record { book = book; own = own })) n
   return (record { own = own; instructions = is })
 
@@ -227,6 +228,6 @@ resultOf (stopped cause bit) = refused cause bit
 -- "plate over 2,953 bytes": 10, before any field
 unfoldable pub plateProgram : List Text → List ℕ → Result Program
 plateProgram book plate =
-    cond (leb (length plate) 2953)
+    cond (leb (length plate) mostPlateBytes)
     (resultOf (wholePlate book (record { left = bytesBits plate; at = 0 })))
     (refused PlateTooLong 0)

@@ -7,6 +7,7 @@ use lib.Dec.{leb}
 use lib.IntN.{ℤ, pos, negsuc}
 use lib.Signed.{leZ}
 use Rattle.causes.specs.Answers.{Result, made, refused}
+use Rattle.causes.specs.Limits.{mostPlateBytes}
 use Rattle.causes.specs.declared.Cause.the-variants.{PlateTooLong}
 use Rattle.bits.specs.Bits.{bitsOf, pack}
 use Rattle.text.specs.Text.{Text}
@@ -110,4 +111,4 @@ plateBytes book p = pack (programBits book p)
 
 -- "plate over 2,953 bytes": 10
 abbrev pub plateSized : List ℕ → Result (List ℕ)
-plateSized plate = cond (leb (length plate) 2953) (made plate) (refused PlateTooLong 0)
+plateSized plate = cond (leb (length plate) mostPlateBytes) (made plate) (refused PlateTooLong 0)

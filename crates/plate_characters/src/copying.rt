@@ -2,6 +2,7 @@
 ghost use mathlib.Core.Path.{_≡_};
 ghost use Prim.Native.Nat.{_≤_};
 ghost use lib.ListN.{length};
+ghost use Rattle.causes.specs.Limits.{mostPlateBytes};
 ghost use Rattle.output.specs.Pour.{poured};
 ghost use Rattle.plate.specs.Reading.{got};
 ghost use Rattle.fields.specs.Places.{placeAt, untilETX, valuesOf, endWith, Known};
@@ -11,7 +12,7 @@ use fields::Copied;
 
 // The characters from a bit on, which are known to be those of a text: one by one, where little code matters.
 pub fn copy_each(plate: &[u8], at: usize, out: &mut [u8], from: usize) -> Copied
-    requires { ⌜ (length (now plate) ≤ 2953) × Known (untilETX (placeAt (now plate) at)) ⌝ }
+    requires { ⌜ (length (now plate) ≤ mostPlateBytes) × Known (untilETX (placeAt (now plate) at)) ⌝ }
     ensures { λ r. ⌜ (r .end, now (out .exit)) ≡ poured from (valuesOf (untilETX (placeAt (now (plate .entry)) at))) (now (out .entry)) ⌝ }
     ensures { λ r. ⌜ got 0 (placeAt (now (plate .entry)) (r .next)) ≡ endWith 0 (untilETX (placeAt (now (plate .entry)) at)) ⌝ }
 {
@@ -32,7 +33,7 @@ pub fn copy_each(plate: &[u8], at: usize, out: &mut [u8], from: usize) -> Copied
 
 // The same, eight characters read at once; one by one where fewer than eight bytes are left.
 pub fn copy_characters(plate: &[u8], at: usize, out: &mut [u8], from: usize) -> Copied
-    requires { ⌜ (length (now plate) ≤ 2953) × Known (untilETX (placeAt (now plate) at)) ⌝ }
+    requires { ⌜ (length (now plate) ≤ mostPlateBytes) × Known (untilETX (placeAt (now plate) at)) ⌝ }
     ensures { λ r. ⌜ (r .end, now (out .exit)) ≡ poured from (valuesOf (untilETX (placeAt (now (plate .entry)) at))) (now (out .entry)) ⌝ }
     ensures { λ r. ⌜ got 0 (placeAt (now (plate .entry)) (r .next)) ≡ endWith 0 (untilETX (placeAt (now (plate .entry)) at)) ⌝ }
 {

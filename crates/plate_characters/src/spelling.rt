@@ -4,6 +4,7 @@ ghost use mathlib.Core.Bool.{_||_};
 ghost use Prim.Native.Nat.{_≤_};
 ghost use lib.ListN.{length};
 ghost use lib.Dec.{eqb};
+ghost use Rattle.causes.specs.Limits.{mostPlateBytes};
 ghost use Rattle.text.specs.Text.{textByte};
 ghost use Rattle.plate.specs.Writing.{ETX};
 ghost use Rattle.plate.specs.Plate.{character};
@@ -39,7 +40,7 @@ fn is_character(code: usize) -> bool
 
 // A character, or ETX.
 fn read_character(plate: &[u8], at: usize) -> Field
-    requires { ⌜ length (now plate) ≤ 2953 ⌝ }
+    requires { ⌜ length (now plate) ≤ mostPlateBytes ⌝ }
     ensures { λ r. ⌜ fieldRead (now (plate .entry)) r ≡ character (placeAt (now (plate .entry)) at) ⌝ }
 {
     let field = read_plain(plate, at, 7);
@@ -57,7 +58,7 @@ fn read_character(plate: &[u8], at: usize) -> Field
 
 // How many characters stand before ETX, and the bit behind it: one by one.
 pub fn last_size(plate: &[u8], at: usize) -> Field
-    requires { ⌜ length (now plate) ≤ 2953 ⌝ }
+    requires { ⌜ length (now plate) ≤ mostPlateBytes ⌝ }
     ensures { λ r. ⌜ sizeRead (now (plate .entry)) at r ≡ untilETX (placeAt (now (plate .entry)) at) ⌝ }
 {
     let mut size = 0;
@@ -77,7 +78,7 @@ pub fn last_size(plate: &[u8], at: usize) -> Field
 
 // The same, eight characters read at once; one by one where fewer than eight bytes are left.
 pub fn read_size(plate: &[u8], at: usize) -> Field
-    requires { ⌜ length (now plate) ≤ 2953 ⌝ }
+    requires { ⌜ length (now plate) ≤ mostPlateBytes ⌝ }
     ensures { λ r. ⌜ sizeRead (now (plate .entry)) at r ≡ untilETX (placeAt (now (plate .entry)) at) ⌝ }
 {
     let mut size = 0;

@@ -5,7 +5,7 @@ ghost use Prim.Native.Nat.{_+_, _-_, _≤_, _<_};
 ghost use lib.ListN.{length};
 ghost use lib.Dec.{ltb};
 ghost use lib.IntN.{pos, negsuc};
-ghost use Rattle.plate.specs.Writing.{isShort};
+ghost use Rattle.causes.specs.Limits.{mostPlateBytes};
 ghost use Rattle.plate.specs.Reading.{number};
 ghost use Rattle.plate.specs.Plate.{constant, short, constantBy};
 ghost use Rattle.fields.specs.Places.{placeAt, fieldRead, constantRead};
@@ -16,6 +16,7 @@ use fields::ConstantRead;
 use fields::Field;
 use fields::read_field;
 use fields::read_plain;
+use plate::is_short;
 
 // The number whose two's complement is the value, where half of all values are not below 0.
 pub fn signed(value: usize, half: usize) -> i32
@@ -29,19 +30,9 @@ pub fn signed(value: usize, half: usize) -> i32
     }
 }
 
-// Whether 16 bits are enough.
-fn is_short(constant: i32) -> bool
-    ensures { λ r. ⌜ r ≡ isShort constant ⌝ }
-{
-    if -32768 <= constant {
-        return constant <= 32767;
-    }
-    false
-}
-
 // A constant of 16 bits.
 fn read_short(plate: &[u8], at: usize) -> ConstantRead
-    requires { ⌜ length (now plate) ≤ 2953 ⌝ }
+    requires { ⌜ length (now plate) ≤ mostPlateBytes ⌝ }
     ensures { λ r. ⌜ constantRead (now (plate .entry)) r ≡ short (placeAt (now (plate .entry)) at) ⌝ }
 {
     let field = read_plain(plate, at, 16);
@@ -53,7 +44,7 @@ fn read_short(plate: &[u8], at: usize) -> ConstantRead
 
 // A number of 32 bits, read in two halves: each lies in four bytes, which are one load.
 fn read_halves(plate: &[u8], at: usize) -> Field
-    requires { ⌜ length (now plate) ≤ 2953 ⌝ }
+    requires { ⌜ length (now plate) ≤ mostPlateBytes ⌝ }
     ensures { λ r. ⌜ fieldRead (now (plate .entry)) r ≡ number 32 (placeAt (now (plate .entry)) at) ⌝ }
 {
     let ends = Field::Refused(Refusal {
@@ -71,7 +62,7 @@ fn read_halves(plate: &[u8], at: usize) -> Field
 
 // A constant of 32 bits, for which 16 are not enough.
 fn read_long(plate: &[u8], at: usize) -> ConstantRead
-    requires { ⌜ length (now plate) ≤ 2953 ⌝ }
+    requires { ⌜ length (now plate) ≤ mostPlateBytes ⌝ }
     ensures { λ r. ⌜ constantRead (now (plate .entry)) r ≡ constantBy 1 (placeAt (now (plate .entry)) at) ⌝ }
 {
     let field = read_halves(plate, at);
@@ -90,7 +81,7 @@ fn read_long(plate: &[u8], at: usize) -> ConstantRead
 
 // A constant: its code, and as many bits as that says.
 pub fn read_constant(plate: &[u8], at: usize) -> ConstantRead
-    requires { ⌜ length (now plate) ≤ 2953 ⌝ }
+    requires { ⌜ length (now plate) ≤ mostPlateBytes ⌝ }
     ensures { λ r. ⌜ constantRead (now (plate .entry)) r ≡ constant (placeAt (now (plate .entry)) at) ⌝ }
 {
     let field = read_field(plate, at, 2, 1, Cause::Unused);

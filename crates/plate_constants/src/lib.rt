@@ -3,7 +3,6 @@
 mod constant;
 mod tests;
 
-pub use constant::read_constant;
 pub use constant::signed;
 pub use tests::op_of;
 pub use tests::read_test;

@@ -2,6 +2,7 @@
 ghost use mathlib.Core.Path.{_≡_};
 ghost use Prim.Native.Nat.{_≤_};
 ghost use lib.ListN.{length};
+ghost use Rattle.causes.specs.Limits.{mostPlateBytes};
 ghost use Rattle.plate.specs.Plate.{opOf, test};
 ghost use Rattle.fields.specs.Places.{placeAt, testRead};
 use crate::constant::read_constant;
@@ -30,7 +31,7 @@ pub fn op_of(code: usize) -> Op
 
 // R, OP and C.
 pub fn read_test(plate: &[u8], at: usize) -> TestRead
-    requires { ⌜ length (now plate) ≤ 2953 ⌝ }
+    requires { ⌜ length (now plate) ≤ mostPlateBytes ⌝ }
     ensures { λ r. ⌜ testRead (now (plate .entry)) r ≡ test (placeAt (now (plate .entry)) at) ⌝ }
 {
     let first = read_plain(plate, at, 5);

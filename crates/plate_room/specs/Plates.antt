@@ -5,6 +5,7 @@ use mathlib.Core.Bool.{Bool, cond}
 use lib.ListN.{length}
 use lib.Dec.{leb}
 use Rattle.causes.specs.Answers.{Result, made, refused, _>>=_, Answer, output, lent}
+use Rattle.causes.specs.Limits.{mostPlateBytes}
 use Rattle.causes.specs.declared.Cause.the-variants.{PlateTooLong, TooShort}
 use Rattle.bits.specs.Bits.{bytesOf}
 use Rattle.text.specs.Text.{Text}
@@ -21,7 +22,7 @@ lentPlate book p buffer = lent (plateSized (plateBytes book p) >>= λ bs. made (
 -- the result": 11
 unfoldable pub plateRoom : ℕ → ℕ → Result ℕ
 plateRoom bits bytes =
-    cond (leb (bits / 8) 2953) (cond (leb (bits / 8) bytes) (made (bits / 8)) (refused TooShort 0)) (refused PlateTooLong 0)
+    cond (leb (bits / 8) mostPlateBytes) (cond (leb (bits / 8) bytes) (made (bits / 8)) (refused TooShort 0)) (refused PlateTooLong 0)
 
 -- of the code that looks for the room
 abbrev pub roomAnswer : Result ℕ → Room

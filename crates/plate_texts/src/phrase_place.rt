@@ -5,6 +5,7 @@ ghost use mathlib.Core.Bool.{true, false};
 ghost use Prim.Native.Nat.{_+_, _*_, _≤_, _<_};
 ghost use lib.ListN.{length, getD};
 ghost use lib.Dec.{ltb};
+ghost use Rattle.causes.specs.Limits.{mostPlateBits, mostPlateBytes};
 ghost use Rattle.causes.specs.declared.Cause.the-variants.{Unused};
 ghost use Rattle.bits.specs.Ahead.{aheadIn, partAhead};
 ghost use Rattle.output.specs.Pour.{upTo};
@@ -22,7 +23,7 @@ use fields::plain_ahead;
 
 // The place of a phrase among n, in the fewest bits that number them, k bits behind the code.
 fn read_place(plate: &[u8], ahead: usize, at: usize, k: usize, n: usize) -> Field
-    requires { ⌜ (length (now plate) ≤ 2953) × (ahead ≡ aheadIn (now plate) at) × (at + k < 18446744073709551616) × (k ≤ 3) × (n ≤ 256) ⌝ }
+    requires { ⌜ (length (now plate) ≤ mostPlateBytes) × (ahead ≡ aheadIn (now plate) at) × (at + k < 18446744073709551616) × (k ≤ 3) × (n ≤ 256) ⌝ }
     ensures { λ r. ⌜ fieldRead (now (plate .entry)) r ≡ judged (number (width n)) (λ i. ltb i n) Unused (placeAt (now (plate .entry)) (at + k)) ⌝ }
 {
     let field = plain_ahead(plate, ahead, at, k, phrases::width_of(n));
@@ -46,7 +47,7 @@ pub enum Source {
 
 // The source of a phrase: one bit for book or own, where both have phrases.
 fn read_source(plate: &[u8], ahead: usize, at: usize, texts: usize, count: usize) -> Source
-    requires { ⌜ (length (now plate) ≤ 2953) × (ahead ≡ aheadIn (now plate) at) × (at + 2 < 18446744073709551616) ⌝ }
+    requires { ⌜ (length (now plate) ≤ mostPlateBytes) × (ahead ≡ aheadIn (now plate) at) × (at + 2 < 18446744073709551616) ⌝ }
     ensures { λ r. ⌜ sourceRead (now (plate .entry)) at r ≡ source texts count (placeAt (now (plate .entry)) (at + 2)) ⌝ }
 {
     if texts == 0 {
@@ -116,7 +117,7 @@ pub struct PhraseAt {
 
 // A phrase of a source of n, whose place stands k bits behind the code.
 fn place_ahead(ahead: usize, at: usize, k: usize, own: bool, n: usize) -> PhraseAt
-    requires { ⌜ (at ≤ 23624) × (k ≤ 3) × (n ≤ 256) ⌝ }
+    requires { ⌜ (at ≤ mostPlateBits) × (k ≤ 3) × (n ≤ 256) ⌝ }
     ensures { λ r. ⌜ (r .own ≡ own) × (r .place ≡ partAhead k (width n) ahead) × (r .next ≡ at + k + width n) ⌝ }
 {
     let width = phrases::width_of(n);

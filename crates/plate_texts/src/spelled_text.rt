@@ -2,6 +2,7 @@
 ghost use mathlib.Core.Path.{_≡_};
 ghost use Prim.Native.Nat.{_≤_};
 ghost use lib.ListN.{length};
+ghost use Rattle.causes.specs.Limits.{mostPlateBytes};
 ghost use Rattle.text.specs.Text.{Text, textSize};
 ghost use Rattle.phrases.specs.Phrases.{isNew};
 ghost use Rattle.phrases.specs.Lookup.{bookTexts, ownTexts};
@@ -48,7 +49,7 @@ pub fn is_no_phrase(
     own: &[u8],
     count: usize,
 ) -> bool
-    requires { ⌜ (length (now plate) ≤ 2953) × Indexed (now index) (now book) × OwnNumbers (now index) (now book) (now own) count × Known (untilETX (placeAt (now plate) bit)) × (size ≡ length (valuesOf (untilETX (placeAt (now plate) bit)))) × (size ≤ 64) ⌝ }
+    requires { ⌜ (length (now plate) ≤ mostPlateBytes) × Indexed (now index) (now book) × OwnNumbers (now index) (now book) (now own) count × Known (untilETX (placeAt (now plate) bit)) × (size ≡ length (valuesOf (untilETX (placeAt (now plate) bit)))) × (size ≤ 64) ⌝ }
     ensures { λ r. ⌜ r ≡ isNew (bookTexts (now (book .entry))) (ownTexts count (now (own .entry))) (valuesOf (untilETX (placeAt (now (plate .entry)) bit))) ⌝ }
 {
     let mut characters = [0u8; 64];
@@ -65,7 +66,7 @@ pub fn read_spelled(
     own: &[u8],
     count: usize,
 ) -> Field
-    requires { ⌜ (length (now plate) ≤ 2953) × Indexed (now index) (now book) × OwnNumbers (now index) (now book) (now own) count ⌝ }
+    requires { ⌜ (length (now plate) ≤ mostPlateBytes) × Indexed (now index) (now book) × OwnNumbers (now index) (now book) (now own) count ⌝ }
     ensures { λ r. ⌜ sizeRead (now (plate .entry)) at r ≡ spelled (bookTexts (now (book .entry))) (ownTexts count (now (own .entry))) (placeAt (now (plate .entry)) at) ⌝ }
 {
     let field = last_size(plate, at);

@@ -10,6 +10,7 @@ use plate_characters::read_size;
 ghost use mathlib.Core.Path.{_≡_};
 ghost use Prim.Native.Nat.{_+_, _≤_};
 ghost use lib.ListN.{length};
+ghost use Rattle.causes.specs.Limits.{mostPlateBytes};
 ghost use Rattle.causes.specs.declared.Cause.the-variants.{Unused};
 ghost use Rattle.bits.specs.Ahead.{aheadIn};
 ghost use Rattle.output.specs.Pour.{upTo};
@@ -33,7 +34,7 @@ fn is_code(code: usize, n: usize) -> bool
 
 // The code of a text, with so many phrases.
 pub fn read_code(plate: &[u8], ahead: usize, at: usize, n: usize) -> Field
-    requires { ⌜ (length (now plate) ≤ 2953) × (ahead ≡ aheadIn (now plate) at) ⌝ }
+    requires { ⌜ (length (now plate) ≤ mostPlateBytes) × (ahead ≡ aheadIn (now plate) at) ⌝ }
     ensures { λ r. ⌜ fieldRead (now (plate .entry)) r ≡ judged (number 2) (codeWith n) Unused (placeAt (now (plate .entry)) at) ⌝ }
 {
     let field = plain_ahead(plate, ahead, at, 0, 2);

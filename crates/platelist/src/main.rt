@@ -3,6 +3,7 @@
 // more than 327,680 bytes.
 use causes::Refusal;
 use causes::Written;
+use causes::limits::LISTING_BYTES;
 use libc::STDERR_FILENO;
 use libc::STDOUT_FILENO;
 use printed::front;
@@ -21,7 +22,7 @@ fn refuse(r: Refusal) {
 
 // What is printed of the plate.
 fn print(plate: &[u8], book: &[u8]) {
-    let mut listing = [0; 327680];
+    let mut listing = [0; LISTING_BYTES];
     match read_plate::read_plate(plate, book, &mut listing) {
         Written::Refused(r) => refuse(r),
         Written::Done(length) => {

@@ -12,6 +12,9 @@ use causes::Cause;
 use causes::Refusal;
 use causes::Written;
 use phrases::Book;
+use phrases::EMPTY_INDEX_NUMBERS;
+use phrases::INDEX_NUMBERS;
+use reader::OWN_BYTES;
 use reader::PlateRead;
 ghost use mathlib.Core.Path.{_≡_};
 ghost use Rattle.causes.specs.Answers.{writtenAnswer};
@@ -45,7 +48,7 @@ fn read_with<'a>(plate: &[u8], index: &'a mut [u32], book: &'a [u8], listing: &m
     ensures { λ r. ⌜ (writtenAnswer r, now (listing .exit)) ≡ readPlateCall (now (plate .entry)) (now (book .entry)) (now (listing .entry)) ⌝ }
 {
     if reader::has_own(plate) {
-        let mut own = [0u8; 2304];
+        let mut own = [0u8; OWN_BYTES];
         return read_own(plate, index, book, &mut own, listing);
     }
     read_own(plate, index, book, &mut [], listing)
@@ -56,10 +59,10 @@ pub fn read_plate(plate: &[u8], book: &[u8], listing: &mut [u8]) -> Written
     ensures { λ r. ⌜ (writtenAnswer r, now (listing .exit)) ≡ readPlateCall (now (plate .entry)) (now (book .entry)) (now (listing .entry)) ⌝ }
 {
     if book.len() == 0 {
-        let mut index = [0u32; 161];
+        let mut index = [0u32; EMPTY_INDEX_NUMBERS];
         return read_with(plate, &mut index, book, listing);
     }
-    let mut index = [0u32; 417];
+    let mut index = [0u32; INDEX_NUMBERS];
     match phrase_check::check_book(book, &mut index) {
         Book::Bad(line) => Written::Refused(Refusal {
             cause: Cause::Book,

@@ -3,6 +3,7 @@ use Prim.Native.Nat.{ℕ, _≤_}
 use mathlib.Core.Path.{_≡_}
 use mathlib.Core.List.{List}
 use Rattle.causes.specs.Answers.{Result, made, refused}
+use Rattle.causes.specs.Limits.{mostInstructions}
 use Rattle.output.specs.Pour.{upTo}
 use Rattle.phrases.specs.Phrases.{Phrases}
 use Rattle.phrases.specs.Lookup.{ownTexts, phrasesIn}
@@ -41,7 +42,7 @@ programRead plate book own (plates.Refused r) = refused (r .cause) (r .place)
 -- contents whose own phrases and instructions are all there, with the room of their lines
 pub record Stands (plate index book own : List ℕ) (c : Contents) : Type 0 where
   pub lent : Lent plate index book own (c .own)
-  pub few : c .instructions ≤ 512
+  pub few : c .instructions ≤ mostInstructions
   pub counted : c .room ≡ upTo (linesRoom (instructionsAt plate (phrasesIn book own (c .own)) (c .instructions) (c .bit)))
   pub whole : There (instruction (phrasesIn book own (c .own))) plate (c .instructions) (c .bit)
       (instructionsAt plate (phrasesIn book own (c .own)) (c .instructions) (c .bit))

@@ -5,6 +5,7 @@ use mathlib.Core.List.{List, [], _∷_, _++_}
 use mathlib.Core.Bool.{Bool, true, false, cond}
 use lib.ListN.{length, getD}
 use lib.Dec.{leb}
+use Rattle.causes.specs.Limits.{mostPlateBytes}
 use Rattle.bits.specs.Bits.{bytesBits}
 use Rattle.text.specs.Quoted.{bytes}
 use Rattle.text.specs.Parts.{LF}
@@ -21,9 +22,16 @@ use Rattle.fields.specs.Places.{placeAt}
 unfoldable pub hasOwn : List ℕ → Bool
 hasOwn plate = getD (bytesBits plate) 0 false
 
--- room for 32 lines of 72 bytes, if a plate has own phrases
+-- a line of an own phrase has at most 72 bytes, and there are at most 32
+abbrev pub lineBytes : ℕ
+lineBytes = 72
+
+abbrev pub ownBytes : ℕ
+ownBytes = 2304
+
+-- room for these lines, if a plate has own phrases
 abbrev pub OwnRoom : List ℕ → List ℕ → Type 0
-OwnRoom plate own = hasOwn plate ≡ true → 2304 ≤ length own
+OwnRoom plate own = hasOwn plate ≡ true → ownBytes ≤ length own
 
 -- "`phrase,TEXT`: an own phrase", ended by LF
 unfoldable pub phraseLine : Text → List ℕ
@@ -67,4 +75,4 @@ ownCounted book (stopped cause bit) = []
 
 -- the own phrases of a plate that are read before the reading stops; a plate over 2,953 bytes is not read
 unfoldable pub ownStored : List Text → List ℕ → List Text
-ownStored book plate = cond (leb (length plate) 2953) (ownCounted book (ownCount (placeAt plate 0))) []
+ownStored book plate = cond (leb (length plate) mostPlateBytes) (ownCounted book (ownCount (placeAt plate 0))) []

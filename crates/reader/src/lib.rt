@@ -10,8 +10,10 @@ mod whole;
 
 use causes::Refusal;
 pub use own::has_own;
-pub use passing::pass_instructions;
 pub use whole::read_contents;
+
+// Room for the lines of a plate's own phrases, of which there are at most 32 of at most 72 bytes.
+pub const OWN_BYTES: usize = 2304;
 
 // What a plate holds: how many own phrases and instructions, the bit of the first instruction, and the room that the lines of the
 // instructions take at most in a listing.

@@ -4,13 +4,14 @@ ghost use mathlib.Core.Path.{_≡_};
 ghost use mathlib.Core.List.{[]};
 ghost use Prim.Native.Nat.{_+_, _*_, _≤_};
 ghost use lib.ListN.{length};
+ghost use Rattle.causes.specs.Limits.{mostOwn, mostPlateBytes};
 ghost use Rattle.output.specs.Pour.{pour, poured};
 ghost use Rattle.phrases.specs.Lookup.{bookTexts};
-ghost use Rattle.phrases.specs.Index.{Indexed};
+ghost use Rattle.phrases.specs.Index.{Indexed, withOwn};
 ghost use Rattle.phrases.specs.Own.{OwnKept};
 ghost use Rattle.plate.specs.Plate.{ownCount, ownFrom};
 ghost use Rattle.fields.specs.Places.{placeAt, fieldRead, untilETX, valuesOf, Known};
-ghost use Rattle.reader.specs.Own.{hasOwn, OwnRoom, phraseLine, ownPhrases, ownRead, OwnThere, ownLines, ownUntil, ownCounted};
+ghost use Rattle.reader.specs.Own.{hasOwn, OwnRoom, phraseLine, ownPhrases, ownRead, OwnThere, ownLines, ownUntil, ownCounted, lineBytes};
 use fields::Field;
 use fields::read_plain;
 use plate_characters::copy_each;
@@ -28,7 +29,7 @@ pub fn has_own(plate: &[u8]) -> bool
 
 // How many own phrases there are: a bit, and 5 bits for their number less one.
 fn read_count(plate: &[u8], at: usize) -> Field
-    requires { ⌜ length (now plate) ≤ 2953 ⌝ }
+    requires { ⌜ length (now plate) ≤ mostPlateBytes ⌝ }
     ensures { λ r. ⌜ fieldRead (now (plate .entry)) r ≡ ownCount (placeAt (now (plate .entry)) at) ⌝ }
 {
     let first = read_plain(plate, at, 1);
@@ -47,7 +48,7 @@ fn read_count(plate: &[u8], at: usize) -> Field
 
 // A line `phrase,TEXT` of the characters from a bit on, up to ETX.
 fn put_phrase(plate: &[u8], bit: usize, own: &mut [u8], at: usize) -> usize
-    requires { ⌜ (length (now plate) ≤ 2953) × Known (untilETX (placeAt (now plate) bit)) ⌝ }
+    requires { ⌜ (length (now plate) ≤ mostPlateBytes) × Known (untilETX (placeAt (now plate) bit)) ⌝ }
     ensures { λ r. ⌜ (r, now (own .exit)) ≡ poured at (phraseLine (valuesOf (untilETX (placeAt (now (plate .entry)) bit)))) (now (own .entry)) ⌝ }
 {
     let text_at = text_out::put(own, at, b"phrase,");
@@ -64,7 +65,7 @@ fn read_phrases(
     book: &[u8],
     own: &mut [u8],
 ) -> Field
-    requires { ⌜ (length (now plate) ≤ 2953) × Indexed (now index) (now book) × (161 + length (bookTexts (now book)) ≤ length (now index)) × (count ≤ 32) × (72 * count ≤ length (now own)) ⌝ }
+    requires { ⌜ (length (now plate) ≤ mostPlateBytes) × Indexed (now index) (now book) × (withOwn + length (bookTexts (now book)) ≤ length (now index)) × (count ≤ mostOwn) × (lineBytes * count ≤ length (now own)) ⌝ }
     ensures { λ r. ⌜ ownRead (now (plate .entry)) (now (own .exit)) r ≡ ownFrom (bookTexts (now (book .entry))) [] count (placeAt (now (plate .entry)) at) ⌝ }
     ensures { λ r. ⌜ OwnThere (now (index .exit)) (now (book .entry)) (now (own .exit)) r ⌝ }
     ensures { λ r. ⌜ now (own .exit) ≡ pour 0 (ownLines (ownUntil (bookTexts (now (book .entry))) [] count (placeAt (now (plate .entry)) at))) (now (own .entry)) ⌝ }
@@ -89,7 +90,7 @@ fn read_phrases(
 
 // The own phrases of a plate, as lines at the front of `own`: those that are read before the first refusal. Nothing else changes there.
 pub fn read_own(plate: &[u8], index: &mut [u32], book: &[u8], own: &mut [u8]) -> Field
-    requires { ⌜ (length (now plate) ≤ 2953) × Indexed (now index) (now book) × (161 + length (bookTexts (now book)) ≤ length (now index)) × OwnRoom (now plate) (now own) ⌝ }
+    requires { ⌜ (length (now plate) ≤ mostPlateBytes) × Indexed (now index) (now book) × (withOwn + length (bookTexts (now book)) ≤ length (now index)) × OwnRoom (now plate) (now own) ⌝ }
     ensures { λ r. ⌜ ownRead (now (plate .entry)) (now (own .exit)) r ≡ ownPhrases (bookTexts (now (book .entry))) (placeAt (now (plate .entry)) 0) ⌝ }
     ensures { λ r. ⌜ OwnThere (now (index .exit)) (now (book .entry)) (now (own .exit)) r ⌝ }
     ensures { λ r. ⌜ now (own .exit) ≡ pour 0 (ownLines (ownCounted (bookTexts (now (book .entry))) (ownCount (placeAt (now (plate .entry)) 0)))) (now (own .entry)) ⌝ }

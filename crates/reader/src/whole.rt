@@ -4,7 +4,7 @@ ghost use Prim.Native.Nat.{_+_, _≤_};
 ghost use lib.ListN.{length};
 ghost use Rattle.output.specs.Pour.{pour};
 ghost use Rattle.phrases.specs.Lookup.{bookTexts, phrasesIn};
-ghost use Rattle.phrases.specs.Index.{Indexed};
+ghost use Rattle.phrases.specs.Index.{Indexed, withOwn};
 ghost use Rattle.phrases.specs.Own.{OwnKept};
 ghost use Rattle.plate.specs.Plate.{resultOf, plateProgram};
 ghost use Rattle.fields.specs.Places.{placeAt};
@@ -21,6 +21,8 @@ use crate::own::read_own;
 use crate::passing::pass_instructions;
 use causes::Cause;
 use causes::Refusal;
+use causes::limits::INSTRUCTIONS;
+use causes::limits::PLATE_BYTES;
 use fields::Field;
 use fields::read_field;
 
@@ -37,7 +39,7 @@ fn read_rest<'a>(
     ensures { λ r. ⌜ programRead (now (plate .entry)) (now (book .entry)) (now (own .entry)) r ≡ resultOf (restOf (phrasesIn (now (book .entry)) (now (own .entry)) count) (placeAt (now (plate .entry)) at)) ⌝ }
     ensures { λ r. ⌜ ((c : contents.Contents) → r ≡ plates.Holds c → Stands (now (plate .entry)) (now (index .entry)) (now (book .entry)) (now (own .entry)) c) ⌝ }
 {
-    let first = read_field(plate, at, 10, 512, Cause::Unused);
+    let first = read_field(plate, at, 10, INSTRUCTIONS, Cause::Unused);
     let Field::Is(instructions, bit) = first else {
         return PlateRead::Refused(first.refusal());
     };
@@ -68,13 +70,13 @@ pub fn read_contents<'a>(
     book: &'a [u8],
     own: &'a mut [u8],
 ) -> PlateRead
-    requires { ⌜ Indexed (now index) (now book) × (161 + length (bookTexts (now book)) ≤ length (now index)) × OwnRoom (now plate) (now own) ⌝ }
+    requires { ⌜ Indexed (now index) (now book) × (withOwn + length (bookTexts (now book)) ≤ length (now index)) × OwnRoom (now plate) (now own) ⌝ }
     ensures { λ r. ⌜ programRead (now (plate .entry)) (now (book .entry)) (now (own .exit)) r ≡ plateProgram (bookTexts (now (book .entry))) (now (plate .entry)) ⌝ }
     ensures { λ r. ⌜ ((c : contents.Contents) → r ≡ plates.Holds c → Stands (now (plate .entry)) (now (index .exit)) (now (book .entry)) (now (own .exit)) c) ⌝ }
     ensures { λ r. ⌜ now (own .exit) ≡ pour 0 (ownLines (ownStored (bookTexts (now (book .entry))) (now (plate .entry)))) (now (own .entry)) ⌝ }
     ensures { λ r. ⌜ OwnKept (now (book .entry)) (now (index .entry)) (now (index .exit)) ⌝ }
 {
-    if 2953 < plate.len() {
+    if PLATE_BYTES < plate.len() {
         return PlateRead::Refused(Refusal {
             cause: Cause::PlateTooLong,
             place: 0,

@@ -12,6 +12,9 @@ use causes::Cause;
 use causes::Ran;
 use causes::Refusal;
 use phrases::Book;
+use phrases::EMPTY_INDEX_NUMBERS;
+use phrases::INDEX_NUMBERS;
+use reader::OWN_BYTES;
 use reader::PlateRead;
 ghost use mathlib.Core.Path.{_≡_};
 ghost use lib.ListN.{length};
@@ -65,7 +68,7 @@ fn run_with<'a>(
     ensures { λ r. ⌜ now (scratch .exit) ≡ now (scratch .entry) ⌝ }
 {
     if reader::has_own(plate) {
-        let mut own = [0u8; 2304];
+        let mut own = [0u8; OWN_BYTES];
         return run_own(plate, index, book, &mut own, answers, scratch, transcript);
     }
     run_own(plate, index, book, &mut [], answers, scratch, transcript)
@@ -83,10 +86,10 @@ pub fn run(
     ensures { λ r. ⌜ now (scratch .exit) ≡ now (scratch .entry) ⌝ }
 {
     if book.len() == 0 {
-        let mut index = [0u32; 161];
+        let mut index = [0u32; EMPTY_INDEX_NUMBERS];
         return run_with(plate, &mut index, book, answers, scratch, transcript);
     }
-    let mut index = [0u32; 417];
+    let mut index = [0u32; INDEX_NUMBERS];
     match phrase_check::check_book(book, &mut index) {
         Book::Bad(line) => Ran::Refused(Refusal {
             cause: Cause::Book,

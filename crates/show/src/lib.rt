@@ -5,6 +5,8 @@
 mod print;
 
 use causes::Written;
+use causes::limits::LISTING_BYTES;
+use causes::limits::PLATE_BYTES;
 ghost use mathlib.Core.Path.{_≡_};
 ghost use Rattle.output.specs.Pour.{poured};
 ghost use Rattle.show.specs.Show.{shown};
@@ -13,11 +15,11 @@ ghost use Rattle.show.specs.Show.{shown};
 pub fn show(guide: &[u8], out: &mut [u8]) -> usize
     ensures { λ r. ⌜ (r, now (out .exit)) ≡ poured 0 (shown (now (guide .entry))) (now (out .entry)) ⌝ }
 {
-    let mut plate = [0; 2953];
+    let mut plate = [0; PLATE_BYTES];
     match translate::translate(guide, b"", &mut plate) {
         Written::Refused(r) => printed::put_refused(out, 0, r),
         Written::Done(length) => {
-            let mut listing = [0; 327680];
+            let mut listing = [0; LISTING_BYTES];
             match read_plate::read_plate(&plate[..length], b"", &mut listing) {
                 // An accepted guide's plate is never refused.
                 Written::Refused(_) => 0,

@@ -6,7 +6,6 @@
 // phrases, each with its number behind the index of the book.
 mod texts;
 
-pub use texts::count_own;
 pub use texts::put_spelled;
 pub use texts::put_text;
 pub use texts::put_texts;

@@ -3,6 +3,7 @@ ghost use mathlib.Core.Path.{_≡_};
 ghost use mathlib.Core.List.{_++_};
 ghost use Prim.Native.Nat.{_+_, _-_, _*_, _^_, _≤_, _<_};
 ghost use lib.ListN.{length, take, drop};
+ghost use Rattle.causes.specs.Limits.{mostPlateBytes};
 ghost use Rattle.output.specs.Pour.{poured};
 ghost use Rattle.bits.specs.Bits.{bitsOf, bytesBits};
 ghost use Rattle.text.specs.Parts.{comma, partsFrom};
@@ -48,7 +49,7 @@ fn put_rest(
 
 // The characters of a text in 7 bits each, then ETX.
 pub fn put_spelled(out: &mut [u8], at: usize, text: &[u8]) -> usize
-    requires { ⌜ length (now out) ≤ 2953 ⌝ }
+    requires { ⌜ length (now out) ≤ mostPlateBytes ⌝ }
     ensures { λ r. ⌜ (r, bytesBits (now (out .exit))) ≡ poured at (spelledBits (now (text .entry))) (bytesBits (now (out .entry))) ⌝ }
 {
     let mut end = at;
@@ -58,22 +59,6 @@ pub fn put_spelled(out: &mut [u8], at: usize, text: &[u8]) -> usize
         i += 8;
     }
     put_rest(out, end, 0, 0, text, i)
-}
-
-// How many own phrases there are.
-pub fn count_own(own: &[u8], count: usize) -> usize
-    ensures { λ r. ⌜ r ≡ length (ownTexts count (now (own .entry))) ⌝ }
-{
-    let mut n = 0;
-    let mut a = 0;
-    while n < count {
-        if own.len() < a {
-            return n;
-        }
-        a = text::find(own, a, b'\n') + 1;
-        n += 1;
-    }
-    n
 }
 
 // `width` bits of a number, then the lowest `places` bits of another, as one number.
@@ -122,7 +107,7 @@ fn put_place(
 
 // What goes before a text that is no phrase, `width` bits of a number; then 00, and the text spelled. All that is one number where the text is short.
 fn put_new(out: &mut [u8], at: usize, width: usize, front: usize, text: &[u8]) -> usize
-    requires { ⌜ (length (now out) ≤ 2953) × (width ≤ 8) × (front < 256) ⌝ }
+    requires { ⌜ (length (now out) ≤ mostPlateBytes) × (width ≤ 8) × (front < 256) ⌝ }
     ensures { λ r. ⌜ (r, bytesBits (now (out .exit))) ≡ poured at (bitsOf width front ++ bitsOf 2 0 ++ spelledBits (now (text .entry))) (bytesBits (now (out .entry))) ⌝ }
 {
     if text.len() <= 5 {
@@ -147,7 +132,7 @@ pub fn put_text(
     own: &[u8],
     count: usize,
 ) -> usize
-    requires { ⌜ (length (now out) ≤ 2953) × (width ≤ 8) × (front < 256) × (a ≤ e) × (e ≤ length (now line)) × Listed (now index) (now book) (now own) count ⌝ }
+    requires { ⌜ (length (now out) ≤ mostPlateBytes) × (width ≤ 8) × (front < 256) × (a ≤ e) × (e ≤ length (now line)) × Listed (now index) (now book) (now own) count ⌝ }
     ensures { λ r. ⌜ (r, bytesBits (now (out .exit))) ≡ poured at (bitsOf width front ++ textBits (phrasesIn (now (book .entry)) (now (own .entry)) count) (take (e - a) (drop a (now (line .entry))))) (bytesBits (now (out .entry))) ⌝ }
 {
     let text = &line[a..e];
@@ -175,7 +160,7 @@ pub fn put_texts(
     own: &[u8],
     count: usize,
 ) -> usize
-    requires { ⌜ (length (now out) ≤ 2953) × Listed (now index) (now book) (now own) count ⌝ }
+    requires { ⌜ (length (now out) ≤ mostPlateBytes) × Listed (now index) (now book) (now own) count ⌝ }
     ensures { λ r. ⌜ (r, bytesBits (now (out .exit))) ≡ poured at (textsBits (phrasesIn (now (book .entry)) (now (own .entry)) count) (partsFrom comma from (now (line .entry)))) (bytesBits (now (out .entry))) ⌝ }
 {
     let mut end = at;

@@ -4,6 +4,7 @@ use mathlib.Core.Path.{_≡_}
 use mathlib.Core.List.{List, [], _∷_, _++_}
 use mathlib.Core.Bool.{Bool, true, false}
 use lib.ListN.{length, drop, replicate}
+use Rattle.causes.specs.Limits.{mostInstructions}
 use Rattle.output.specs.Pour.{pour}
 use Rattle.lines.specs.declared.Form.the-variants.{Guide as aGuide}
 use Rattle.lines.specs.Clean.{Clean}
@@ -78,7 +79,7 @@ blockLength (suc n) ls = blockWith (beginsBy (firstRole ls)) (blockLength n) ls
 
 -- the table of skips: 512 numbers, and from the first on those of the guide's instructions
 unfoldable pub skipTable : List ℕ → List ℕ
-skipTable g = pour 0 (blockLength (length g + 2) (linesAt g 0) .skips) (replicate 512 0)
+skipTable g = pour 0 (blockLength (length g + 2) (linesAt g 0) .skips) (replicate mostInstructions 0)
 
 -- ---- what the code answers, and what it leaves in the table of skips
 

@@ -4,6 +4,7 @@ use guide::Role;
 ghost use mathlib.Core.Path.{_≡_};
 ghost use Prim.Native.Nat.{_+_, _≤_, _<_};
 ghost use lib.ListN.{length, drop};
+ghost use Rattle.causes.specs.Limits.{mostGuideBytes};
 ghost use Rattle.lines.specs.declared.Form.the-variants.{Guide as aGuide};
 ghost use Rattle.lines.specs.Clean.{Clean};
 ghost use Rattle.guide.specs.Lines.{linesAt};
@@ -29,7 +30,7 @@ fn is_if(role: Role) -> bool
 
 // The block that begins at a; `lines` is more than its lines. The skips of its instructions are stored from the number `first` on.
 pub fn block_length(guide: &[u8], lines: usize, a: usize, skips: &mut [u16], first: usize) -> Length
-    requires { ⌜ (first ≤ a) × (a ≤ length (now guide)) × (length (now guide) ≤ 16384) × Clean aGuide (drop a (now guide)) ⌝ }
+    requires { ⌜ (first ≤ a) × (a ≤ length (now guide)) × (length (now guide) ≤ mostGuideBytes) × Clean aGuide (drop a (now guide)) ⌝ }
     ensures { λ r. ⌜ Counts (now (guide .entry)) first (now (skips .entry)) r (blockLength lines (linesAt (now (guide .entry)) a)) (now (skips .exit)) ⌝ }
     ensures { λ r. ⌜ a + r .instructions ≤ r .end ⌝ }
 {
@@ -67,7 +68,7 @@ fn statement_length(
     skips: &mut [u16],
     first: usize,
 ) -> Length
-    requires { ⌜ (first < next) × (next ≤ length (now guide)) × (length (now guide) ≤ 16384) × Clean aGuide (drop next (now guide)) ⌝ }
+    requires { ⌜ (first < next) × (next ≤ length (now guide)) × (length (now guide) ≤ mostGuideBytes) × Clean aGuide (drop next (now guide)) ⌝ }
     ensures { λ r. ⌜ Counts (now (guide .entry)) first (now (skips .entry)) r (statementLength (ifBy role) (blockLength left) (linesAt (now (guide .entry)) next)) (now (skips .exit)) ⌝ }
     ensures { λ r. ⌜ next + r .instructions ≤ r .end + 1 ⌝ }
 {

@@ -14,6 +14,8 @@ use causes::Written;
 use lines::Checked;
 use lines::Form;
 use phrases::Book;
+use phrases::EMPTY_INDEX_NUMBERS;
+use phrases::INDEX_NUMBERS;
 ghost use mathlib.Core.Path.{_≡_};
 ghost use Rattle.causes.specs.Answers.{writtenAnswer};
 ghost use Rattle.phrases.specs.Index.{CheckedBook};
@@ -37,10 +39,10 @@ pub fn translate(guide: &[u8], book: &[u8], plate: &mut [u8]) -> Written
     ensures { λ r. ⌜ (writtenAnswer r, now (plate .exit)) ≡ translateCall (now (guide .entry)) (now (book .entry)) (now (plate .entry)) ⌝ }
 {
     if book.len() == 0 {
-        let mut index = [0u32; 161];
+        let mut index = [0u32; EMPTY_INDEX_NUMBERS];
         return translate_with(guide, &mut index, book, plate);
     }
-    let mut index = [0u32; 417];
+    let mut index = [0u32; INDEX_NUMBERS];
     match phrase_check::check_book(book, &mut index) {
         Book::Bad(line) => Written::Refused(Refusal {
             cause: Cause::Book,

@@ -1,10 +1,12 @@
 // The plate of an accepted guide.
 use crate::lengths::block_length;
 use causes::Written;
+use causes::limits::INSTRUCTIONS;
 use lines::Form;
 ghost use mathlib.Core.Path.{_≡_};
 ghost use Prim.Native.Nat.{_≤_};
 ghost use lib.ListN.{length};
+ghost use Rattle.causes.specs.Limits.{mostGuideBytes};
 ghost use Rattle.causes.specs.Answers.{writtenAnswer};
 ghost use Rattle.phrases.specs.Lookup.{bookTexts};
 ghost use Rattle.phrases.specs.Own.{Listed};
@@ -22,10 +24,10 @@ pub fn write(
     instructions: usize,
     plate: &mut [u8],
 ) -> Written
-    requires { ⌜ (length (now guide) ≤ 16384) × Listed (now index) (now book) (now guide) own × Counted aGuide (skipTable (now guide)) (now guide) instructions ⌝ }
+    requires { ⌜ (length (now guide) ≤ mostGuideBytes) × Listed (now index) (now book) (now guide) own × Counted aGuide (skipTable (now guide)) (now guide) instructions ⌝ }
     ensures { λ r. ⌜ (writtenAnswer r, now (plate .exit)) ≡ lentProgram (bookTexts (now (book .entry))) (programIn aGuide (skipTable (now (guide .entry))) (now (guide .entry)) own) (now (plate .entry)) ⌝ }
 {
-    let mut skips = [0u16; 512];
+    let mut skips = [0u16; INSTRUCTIONS];
     block_length(guide, guide.len() + 2, 0, &mut skips, 0);
     assemble::write(
         Form::Guide,

@@ -11,6 +11,7 @@ use causes::Refusal;
 use lines::Checked;
 use lines::Form;
 use phrases::Book;
+use phrases::INDEX_NUMBERS;
 ghost use mathlib.Core.Path.{_≡_};
 ghost use Rattle.causes.specs.Answers.{ranAnswer};
 ghost use Rattle.walking.specs.Call.{walkCall};
@@ -19,7 +20,7 @@ ghost use Rattle.walking.specs.Call.{walkCall};
 pub fn walk(guide: &[u8], book: &[u8], answers: &[i32], transcript: &mut [u8]) -> Ran
     ensures { λ r. ⌜ (ranAnswer r, now (transcript .exit)) ≡ walkCall (now (guide .entry)) (now (book .entry)) (now (answers .entry)) (now (transcript .entry)) ⌝ }
 {
-    let mut index = [0u32; 417];
+    let mut index = [0u32; INDEX_NUMBERS];
     match phrase_check::check_book(book, &mut index) {
         Book::Bad(line) => Ran::Refused(Refusal {
             cause: Cause::Book,

@@ -1,16 +1,6 @@
 // Constants in two's complement.
 ghost use mathlib.Core.Path.{_≡_};
-ghost use Rattle.plate.specs.Writing.{complement, isShort};
-
-// Whether a constant is written in 16 bits.
-pub fn is_short(c: i32) -> bool
-    ensures { λ r. ⌜ r ≡ isShort c ⌝ }
-{
-    if c < -32768 {
-        return false;
-    }
-    c <= 32767
-}
+ghost use Rattle.plate.specs.Writing.{complement};
 
 // The two's complement of 32 bits. Its lowest 16 bits are that of 16 bits.
 pub fn to_bits(c: i32) -> u32

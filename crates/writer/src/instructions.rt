@@ -3,6 +3,7 @@ ghost use mathlib.Core.Path.{_≡_};
 ghost use mathlib.Core.List.{[], _++_};
 ghost use Prim.Native.Nat.{_≤_};
 ghost use lib.ListN.{length, drop, getD};
+ghost use Rattle.causes.specs.Limits.{mostPlateBytes};
 ghost use Rattle.output.specs.Pour.{poured};
 ghost use Rattle.bits.specs.Bits.{bitsOf, bytesBits};
 ghost use Rattle.text.specs.Parts.{split, comma, partsFrom};
@@ -12,8 +13,9 @@ ghost use Rattle.phrases.specs.Own.{Listed};
 ghost use Rattle.transcript.specs.Statement.{input, inputs, print, printex};
 ghost use Rattle.plate.specs.Program.{ifSkip};
 ghost use Rattle.plate.specs.Writing.{opCode, constantBits, statementBits, instructionBits};
-use crate::constants::is_short;
 use crate::constants::to_bits;
+use causes::limits::SKIPS;
+use plate::is_short;
 use text_bits::put_text;
 use text_bits::put_texts;
 use transcript::Op;
@@ -46,7 +48,7 @@ pub fn put_input(
     own: &[u8],
     count: usize,
 ) -> usize
-    requires { ⌜ (length (now out) ≤ 2953) × (a ≤ length (now line)) × Listed (now index) (now book) (now own) count ⌝ }
+    requires { ⌜ (length (now out) ≤ mostPlateBytes) × (a ≤ length (now line)) × Listed (now index) (now book) (now own) count ⌝ }
     ensures { λ r. ⌜ (r, bytesBits (now (out .exit))) ≡ poured at (statementBits (phrasesIn (now (book .entry)) (now (own .entry)) count) (input register (drop a (now (line .entry))))) (bytesBits (now (out .entry))) ⌝ }
 {
     put_text(
@@ -77,7 +79,7 @@ pub fn put_inputs(
     own: &[u8],
     count: usize,
 ) -> usize
-    requires { ⌜ (length (now out) ≤ 2953) × Listed (now index) (now book) (now own) count × (a ≤ length (now line)) × (partsFrom comma a (now line) ≡ drop 2 (split comma (now line))) × (options ≡ length (drop 3 (split comma (now line)))) × (2 ≤ options) ⌝ }
+    requires { ⌜ (length (now out) ≤ mostPlateBytes) × Listed (now index) (now book) (now own) count × (a ≤ length (now line)) × (partsFrom comma a (now line) ≡ drop 2 (split comma (now line))) × (options ≡ length (drop 3 (split comma (now line)))) × (2 ≤ options) ⌝ }
     ensures { λ r. ⌜ (r, bytesBits (now (out .exit))) ≡ poured at (statementBits (phrasesIn (now (book .entry)) (now (own .entry)) count) (inputs register (getD (split comma (now (line .entry))) 2 []) (drop 3 (split comma (now (line .entry)))))) (bytesBits (now (out .entry))) ⌝ }
 {
     let front = 32 + register % 32;
@@ -98,7 +100,7 @@ pub fn put_print(
     own: &[u8],
     count: usize,
 ) -> usize
-    requires { ⌜ (length (now out) ≤ 2953) × (a ≤ length (now line)) × Listed (now index) (now book) (now own) count ⌝ }
+    requires { ⌜ (length (now out) ≤ mostPlateBytes) × (a ≤ length (now line)) × Listed (now index) (now book) (now own) count ⌝ }
     ensures { λ r. ⌜ (r, bytesBits (now (out .exit))) ≡ poured at (statementBits (phrasesIn (now (book .entry)) (now (own .entry)) count) (print (drop a (now (line .entry))))) (bytesBits (now (out .entry))) ⌝ }
 {
     put_text(out, at, 3, 2, line, a, line.len(), index, book, own, count)
@@ -115,7 +117,7 @@ pub fn put_printex(
     own: &[u8],
     count: usize,
 ) -> usize
-    requires { ⌜ (length (now out) ≤ 2953) × (a ≤ length (now line)) × Listed (now index) (now book) (now own) count ⌝ }
+    requires { ⌜ (length (now out) ≤ mostPlateBytes) × (a ≤ length (now line)) × Listed (now index) (now book) (now own) count ⌝ }
     ensures { λ r. ⌜ (r, bytesBits (now (out .exit))) ≡ poured at (statementBits (phrasesIn (now (book .entry)) (now (own .entry)) count) (printex (drop a (now (line .entry))))) (bytesBits (now (out .entry))) ⌝ }
 {
     put_text(out, at, 3, 3, line, a, line.len(), index, book, own, count)
@@ -123,10 +125,10 @@ pub fn put_printex(
 
 // A goto. The phrases do not matter.
 pub fn put_goto(out: &mut [u8], at: usize, skip: usize) -> usize
-    requires { ⌜ length (now out) ≤ 2953 ⌝ }
+    requires { ⌜ length (now out) ≤ mostPlateBytes ⌝ }
     ensures { λ r. ⌜ (r, bytesBits (now (out .exit))) ≡ poured at (bitsOf 3 4 ++ bitsOf 9 skip) (bytesBits (now (out .entry))) ⌝ }
 {
-    bits_out::put_bits(out, at, 12, 2048 + skip % 512)
+    bits_out::put_bits(out, at, 12, 2048 + skip % SKIPS)
 }
 
 // The fields of an if, of 38 or 54 bits, as one number.
@@ -145,15 +147,15 @@ fn put_test(
     let low = to_bits(constant) as usize;
     if is_short(constant) {
         let value = front * 4 * 65536 + low % 65536;
-        return bits_out::put_bits(out, at, 38, value * 512 + skip % 512);
+        return bits_out::put_bits(out, at, 38, value * SKIPS + skip % SKIPS);
     }
     let value = (front * 4 + 1) * 4294967296 + low;
-    bits_out::put_bits(out, at, 54, value * 512 + skip % 512)
+    bits_out::put_bits(out, at, 54, value * SKIPS + skip % SKIPS)
 }
 
 // An if. The phrases do not matter.
 pub fn put_if(out: &mut [u8], at: usize, test: Test, skip: usize) -> usize
-    requires { ⌜ length (now out) ≤ 2953 ⌝ }
+    requires { ⌜ length (now out) ≤ mostPlateBytes ⌝ }
     ensures { λ r. ⌜ ((c : Phrases) → (r, bytesBits (now (out .exit))) ≡ poured at (instructionBits c (ifSkip test skip)) (bytesBits (now (out .entry)))) ⌝ }
 {
     let op = test.op;

@@ -2,6 +2,7 @@
 ghost use mathlib.Core.Path.{_≡_};
 ghost use Prim.Native.Nat.{_≤_};
 ghost use lib.ListN.{length};
+ghost use Rattle.causes.specs.Limits.{mostPlateBytes};
 ghost use Rattle.output.specs.Pour.{poured};
 ghost use Rattle.bits.specs.Bits.{bytesBits};
 ghost use Rattle.text.specs.Parts.{split, comma};
@@ -29,7 +30,7 @@ pub fn put_line(
     own: &[u8],
     count: usize,
 ) -> usize
-    requires { ⌜ (length (now out) ≤ 2953) × Listed (now index) (now book) (now own) count × Heads head (now line) ⌝ }
+    requires { ⌜ (length (now out) ≤ mostPlateBytes) × Listed (now index) (now book) (now own) count × Heads head (now line) ⌝ }
     ensures { λ r. ⌜ (r, bytesBits (now (out .exit))) ≡ poured at (lineBits (phrasesIn (now (book .entry)) (now (own .entry)) count) head (split comma (now (line .entry)))) (bytesBits (now (out .entry))) ⌝ }
 {
     match head {

@@ -16,7 +16,7 @@ same-length c = search needs
 returns : tie.Need-returns
 returns c =
     let own = c .before .before .before .before .before .before in
-    both _ _ _ _ (own .put-own .ensures) (c .before .before .put-bits .ensures) (own .before .before .before .before .pre)
+    both _ _ _ _ (own .put-own .ensures) (c .before .before .put-bits .ensures) (own .before .before .before .before .pre .0)
 
 pub put-front-spec : {M : Type 1} → statement M
 put-front-spec = tie.close (tie.spec put-own-requires put-bits-requires same-length returns)

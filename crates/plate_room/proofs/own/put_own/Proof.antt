@@ -7,9 +7,6 @@ use Rattle.plate_room.proofs.OwnBits.{own-nothing, own-some}
 use Rattle.plate_room.proofs.own.put_own.Statement.{statement}
 use Rattle.plate_room.proofs.own.put_own.Tie as tie
 
-count-own-requires : tie.Need-count-own-requires
-count-own-requires c κs = search needs
-
 put-bits-requires : tie.Need-put-bits-requires
 put-bits-requires c κs = search needs
 
@@ -18,8 +15,9 @@ same-length c = search needs
 
 returns : tie.Need-returns
 returns c =
-    let a = c .before .before .before .before .before .before .before .before .args in
-    rw (own-nothing (ownTexts (a .count) (a .own .now)) (sym (c .before .before .before .before .before .count-own .ensures) ∙ c .before .before .before .before .if1 .taken)) (c .before .before .put-bits .ensures)
+    let start = c .before .before .before .before .before .before .before in
+    let a = start .args in
+    rw (own-nothing (ownTexts (a .count) (a .own .now)) (start .pre .1 ∙ c .before .before .before .before .if1 .taken)) (c .before .before .put-bits .ensures)
 
 put-bits-requires-2 : tie.Need-put-bits-requires-2
 put-bits-requires-2 c κs = search needs
@@ -39,18 +37,17 @@ same-length-2 c = search needs
 returns-2 : tie.Need-returns-2
 returns-2 c =
     let test = c .before .before .before .before .before .before .before .before .before .before .before .before in
-    let start = test .before .before .before .before in
+    let start = test .before .before .before in
     let a = start .args in
-    let e = test .before .count-own .ensures in
-    let some = own-some (ownTexts (a .count) (a .own .now)) (λ z. test .if1 .left (e ∙ z)) in
-    let front = both _ _ _ _ (c .before .before .before .before .before .before .before .before .before .before .put-bits2 .ensures) (rw e at (c .before .before .before .before .before .before .put-bits3 .ensures)) (start .pre) in
-    rw some (both _ _ _ _ front (c .before .before .put-phrases .ensures) (start .pre))
+    let e = start .pre .1 in
+    let some = own-some (ownTexts (a .count) (a .own .now)) (λ z. test .if1 .left (sym e ∙ z)) in
+    let front = both _ _ _ _ (c .before .before .before .before .before .before .before .before .before .before .put-bits2 .ensures) (rw (sym e) at (c .before .before .before .before .before .before .put-bits3 .ensures)) (start .pre .0) in
+    rw some (both _ _ _ _ front (c .before .before .put-phrases .ensures) (start .pre .0))
 
 pub put-own-spec : {M : Type 1} → statement M
 put-own-spec =
     tie.close
     (tie.spec
-    count-own-requires
     put-bits-requires
     same-length
     returns

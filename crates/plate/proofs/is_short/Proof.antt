@@ -1,8 +1,8 @@
 -- `is_short` meets its contract.
 use mathlib.Core.Path.{refl}
 use mir.Facts.{toZ-ofZ}
-use Rattle.plate_constants.proofs.constant.is_short.Statement.{statement}
-use Rattle.plate_constants.proofs.constant.is_short.Tie as tie
+use Rattle.plate.proofs.is_short.Statement.{statement}
+use Rattle.plate.proofs.is_short.Tie as tie
 
 returns : tie.Need-returns
 returns c = let k = toZ-ofZ (c .before .fits .constant) in simp (k, rw k at (c .if1 .taken)) refl

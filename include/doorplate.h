@@ -69,8 +69,8 @@ doorplate_ran doorplate_walk(const uint8_t *guide, size_t guide_length, const ui
                              const int32_t *answers, size_t answers_length, uint8_t *transcript, size_t transcript_length);
 
 /* The transcript of a plate, run on the answers. Refusals: 1, 8, 10 to 15; 11 also for fewer than 512 numbers of scratch.
- * scratch is left as it was. On the bytes that doorplate_translate wrote for a guide, with the same book, the answer and the buffer are
- * those of doorplate_walk on that guide, for every list of answers and every buffer. */
+ * scratch is left as it was. On the bytes that doorplate_translate wrote for a guide, with the same book and enough scratch, the answer and
+ * the buffer are those of doorplate_walk on that guide, for every list of answers and every buffer. */
 doorplate_ran doorplate_run(const uint8_t *plate, size_t plate_length, const uint8_t *book, size_t book_length,
                             const int32_t *answers, size_t answers_length, uint16_t *scratch, size_t scratch_length,
                             uint8_t *transcript, size_t transcript_length);

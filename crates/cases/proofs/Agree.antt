@@ -9,7 +9,7 @@ use borrow.Author.Tests.{eqb-true}
 use Rattle.causes.specs.Answers.{Answer, wrote, ended, refusal}
 use Rattle.text.specs.Parts.{same}
 use Rattle.text.proofs.Tests.{and-parts, same-equal}
-use Rattle.cases.specs.Row.{Row, _gives_, _counts_, Worth, returned, counted, computed, worked}
+use Rattle.cases.specs.Row.{Row, _gives_, _counts_, _prints_, Worth, returned, counted, text, computed, worked}
 use Rattle.cases.specs.Agree.{numbers, sameReturned, agrees, allAgree}
 
 -- an answer's numbers tell it
@@ -40,6 +40,9 @@ all-agree ((c gives w) ∷ rows) e =
 all-agree ((c counts w) ∷ rows) e =
     let h = and-parts (eqb c w) (allAgree rows) e in
     ap₂ (λ (x : Worth) (l : List Worth). x ∷ l) (ap counted (eqb-true c w (h .0))) (all-agree rows (h .1))
+all-agree ((c prints w) ∷ rows) e =
+    let h = and-parts (same c w) (allAgree rows) e in
+    ap₂ (λ (x : Worth) (l : List Worth). x ∷ l) (ap text (same-equal c w (h .0))) (all-agree rows (h .1))
 
 -- two tables, one behind the other
 pub agree-append : (r s : List Row) → allAgree r ≡ true → allAgree s ≡ true → allAgree (r ++ s) ≡ true

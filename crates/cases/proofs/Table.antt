@@ -9,6 +9,7 @@ use Rattle.cases.specs.Machine.{machine}
 use Rattle.cases.specs.Guides.{guides}
 use Rattle.cases.specs.Listings.{listings}
 use Rattle.cases.specs.Plates.{plates}
+use Rattle.cases.specs.Runs.{runs}
 use Rattle.cases.specs.Table.{table}
 use Rattle.cases.proofs.Agree.{all-agree, agree-append}
 
@@ -32,9 +33,15 @@ plates-agree : allAgree plates ≡ true
 unfolding opened
 plates-agree = refl
 
+runs-agree : allAgree runs ≡ true
+unfolding opened
+runs-agree = refl
+
 pub cases : computed table ≡ worked table
 unfolding table
 cases =
-    all-agree table
-    (agree-append _ plates (agree-append _ listings (agree-append _ guides (agree-append paper machine paper-agree machine-agree) guides-agree) listings-agree)
-    plates-agree)
+    let p = agree-append paper machine paper-agree machine-agree in
+    let p = agree-append _ guides p guides-agree in
+    let p = agree-append _ listings p listings-agree in
+    let p = agree-append _ plates p plates-agree in
+    all-agree table (agree-append _ runs p runs-agree)

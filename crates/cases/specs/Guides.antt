@@ -6,15 +6,11 @@ use Rattle.text.specs.Quoted.{bytes}
 use Rattle.causes.specs.Answers.{wrote}
 use Rattle.translate.specs.Call.{translateCall}
 use Rattle.walking.specs.Call.{walkCall}
-use Rattle.cases.specs.Row.{Row, hex, times, numbered, refuses, writes, fits, guideRefused, meets}
-
--- a print line with a text of n bytes
-abbrev pub printed : ℕ → List ℕ
-printed n = bytes "print," ++ replicate n 97 ++ bytes "\n"
+use Rattle.cases.specs.Row.{Row, hex, times, printLine, numbered, refuses, writes, fits, guideRefused, meets}
 
 -- a guide of 16,384 bytes
 abbrev pub longest : List ℕ
-longest = times 230 (printed 64) ++ printed 47
+longest = times 230 (printLine 64) ++ printLine 47
 
 -- n own phrases
 unfoldable pub phraseLines : ℕ → List ℕ
@@ -67,7 +63,7 @@ guides =
     ++ guideRefused (bytes "print,a\nfi \n") [] 4 2
     ++ guideRefused (bytes "print,a\ngoto,0\n") [] 4 2
     ++ guideRefused (bytes "print,a\nPrint,a\n") [] 4 2
-    -- 2 and 8 options; the last text of 64 bytes
+    -- 2 and 8 options; a text of 64 bytes
     ++ writes (translateCall (bytes "inputs,0,a,b,c\n") []) (hex "0024061060C40CC60C")
     ++ refuses (translateCall (bytes "inputs,0,a,b,c,d,e,f,g,h,i\n") []) 11 0
     ++ refuses (translateCall (bytes "print," ++ replicate 64 97 ++ bytes "\n") []) 11 0
@@ -126,6 +122,6 @@ guides =
     ++ guideRefused (bytes "if,0,eq,0\n" ++ times 511 (bytes "print,a\n") ++ bytes "else\nfi\n") [] 9 513
     ++ guideRefused (bytes "if,0,eq,0\nelse\n" ++ times 510 (bytes "print,a\n") ++ bytes "else\nfi\n") [] 7 513
     -- 10: 2,953 and 2,954 bytes; 11: a buffer of the length, and one byte less
-    ++ refuses (translateCall (times 51 (printed 64) ++ printed 20) []) 11 0
-    ++ refuses (translateCall (times 51 (printed 64) ++ printed 21) []) 10 0
+    ++ refuses (translateCall (times 51 (printLine 64) ++ printLine 20) []) 11 0
+    ++ refuses (translateCall (times 51 (printLine 64) ++ printLine 21) []) 10 0
     ++ fits (translateCall (bytes "printex,OK\n") []) (hex "002C9F2C18") (wrote 5)

@@ -6,4 +6,5 @@ pub mod Machine
 pub mod Guides
 pub mod Listings
 pub mod Plates
+pub mod Runs
 pub mod Table

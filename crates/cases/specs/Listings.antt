@@ -6,8 +6,8 @@ use Rattle.text.specs.Quoted.{bytes}
 use Rattle.causes.specs.Answers.{wrote}
 use Rattle.phrases.specs.Phrases.{width}
 use Rattle.listing.specs.Calls.{writePlateCall, readPlateCall}
-use Rattle.cases.specs.Row.{Row, _counts_, hex, times, numbered, refuses, writes, fits}
-use Rattle.cases.specs.Guides.{printed, phraseLines}
+use Rattle.cases.specs.Row.{Row, _counts_, hex, times, printLine, numbered, refuses, writes, fits}
+use Rattle.cases.specs.Guides.{phraseLines}
 
 -- a listing written as a plate, and the plate read back
 abbrev pub both : List ℕ → List ℕ → List ℕ → List Row
@@ -78,22 +78,22 @@ listings =
     ++ refuses (writePlateCall (bytes "goto,2\ngoto,1\ngoto,1\n") []) 8 3
     ++ writes (writePlateCall (bytes "goto,1\nif,0,eq,0,0\n") []) (hex "0050034000000000")
     -- 8 before 10
-    ++ refuses (writePlateCall (times 52 (printed 64) ++ bytes "goto,1\n") []) 8 53
+    ++ refuses (writePlateCall (times 52 (printLine 64) ++ bytes "goto,1\n") []) 8 53
     -- 9: 512 and 513 instructions
     ++ refuses (writePlateCall (times 512 (bytes "goto,0\n")) []) 11 0
     ++ refuses (writePlateCall (times 513 (bytes "goto,0\n")) []) 9 513
     -- 10: 2,953 and 2,954 bytes; 11: a buffer of the length, and one byte less
-    ++ refuses (writePlateCall (times 51 (printed 64) ++ printed 20) []) 11 0
-    ++ refuses (writePlateCall (times 51 (printed 64) ++ printed 21) []) 10 0
+    ++ refuses (writePlateCall (times 51 (printLine 64) ++ printLine 20) []) 11 0
+    ++ refuses (writePlateCall (times 51 (printLine 64) ++ printLine 21) []) 10 0
     ++ fits (writePlateCall (bytes "printex,OK\n") []) (hex "002C9F2C18") (wrote 5)
-    -- a text that is a phrase is always written as one: of the only phrase, in the book, among the own
+    -- a text that is a phrase is always written as one: with a book of 1, 2 and 3 phrases, with an own phrase and no book, with both
     ++ both (bytes "print,ok\n") (bytes "ok\n") (hex "002A")
     ++ both (bytes "print,no\n") (bytes "ok\nno\n") (hex "002A80")
     ++ both (bytes "print,c\n") (bytes "a\nb\nc\n") (hex "002A80")
     ++ both (bytes "phrase,ok\nprint,ok\n") [] (hex "837EB0600A80")
     ++ both (bytes "phrase,ok\nprint,ok\nprint,a\n") (bytes "a\n") (hex "837EB06012AA00")
     ++ both (bytes "phrase,ok\ninputs,7,a,ok,b,c\n") (bytes "a\nb\n") (hex "837EB060093C1B263060")
-    -- the least bits for a place: 1 phrase 0, 2 1, 3 2, 17 5, 18 5, 32 5, 33 6, 255 8, 256 8
+    -- the fewest bits that number so many phrases
     ++ ((placeBits 1 counts 0) ∷ [])
     ++ ((placeBits 2 counts 1) ∷ [])
     ++ ((placeBits 3 counts 2) ∷ [])

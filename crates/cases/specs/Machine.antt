@@ -27,7 +27,7 @@ yes op constant answer written = shows op constant answer written (bytes "yes") 
 abbrev pub no′ : List ℕ → List ℕ → ℤ → List ℕ → List Row
 no′ op constant answer written = shows op constant answer written (bytes "no") 3
 
--- each OP below, at and above its constant, which is 7 and -7
+-- each OP below, at and above its constant, which is 7 and -7; the greatest and the least answer
 abbrev pub operators : List Row
 operators =
     no′ (bytes "eq") (bytes "7") (pos 6) (bytes "6")
@@ -51,11 +51,13 @@ operators =
     ++ no′ (bytes "eq") (bytes "-7") (negsuc 7) (bytes "-8")
     ++ yes (bytes "eq") (bytes "-7") (negsuc 6) (bytes "-7")
     ++ no′ (bytes "eq") (bytes "-7") (pos 7) (bytes "7")
-    ++ yes (bytes "ne") (bytes "-7") (pos 7) (bytes "7")
+    ++ yes (bytes "ne") (bytes "-7") (negsuc 7) (bytes "-8")
     ++ no′ (bytes "ne") (bytes "-7") (negsuc 6) (bytes "-7")
+    ++ yes (bytes "ne") (bytes "-7") (pos 7) (bytes "7")
     ++ yes (bytes "lt") (bytes "-7") (negsuc 7) (bytes "-8")
     ++ no′ (bytes "lt") (bytes "-7") (negsuc 6) (bytes "-7")
     ++ no′ (bytes "lt") (bytes "-7") (pos 0) (bytes "0")
+    ++ yes (bytes "le") (bytes "-7") (negsuc 7) (bytes "-8")
     ++ yes (bytes "le") (bytes "-7") (negsuc 6) (bytes "-7")
     ++ no′ (bytes "le") (bytes "-7") (negsuc 5) (bytes "-6")
     ++ no′ (bytes "gt") (bytes "-7") (negsuc 7) (bytes "-8")
@@ -63,10 +65,11 @@ operators =
     ++ yes (bytes "gt") (bytes "-7") (pos 0) (bytes "0")
     ++ no′ (bytes "ge") (bytes "-7") (negsuc 7) (bytes "-8")
     ++ yes (bytes "ge") (bytes "-7") (negsuc 6) (bytes "-7")
+    ++ yes (bytes "ge") (bytes "-7") (pos 0) (bytes "0")
     ++ yes (bytes "gt") (bytes "2147483646") (pos 2147483647) (bytes "2147483647")
     ++ yes (bytes "lt") (bytes "-2147483647") (negsuc 2147483647) (bytes "-2147483648")
 
--- a question with two options, and one with a number
+-- a question with two options, and a verdict on the second
 abbrev pub choice : List ℕ
 choice = bytes "inputs,31,Lamp,on,off\nif,31,eq,1\nprintex,Dark\nfi\n"
 
@@ -78,7 +81,7 @@ nested =
 abbrev pub machine : List Row
 machine =
     operators
-    -- a C line; the last option, one past it, one below 0, no answer
+    -- a C line; the first option, the last, one past it, one below 0, no answer; of 8 options the last and one past it
     ++ meets choice (pos 0 ∷ []) (bytes "C,Lamp,on,off\nA,0\n") 1 1 2
     ++ meets choice (pos 1 ∷ []) (bytes "C,Lamp,on,off\nA,1\nV,Dark\n") 0 1 3
     ++ meets choice (pos 2 ∷ []) (bytes "C,Lamp,on,off\n") 3 0 1
@@ -102,12 +105,14 @@ machine =
     1
     2
     6
-    -- leaving two true blocks with an else line; a verdict, a wait inside one is no such step
+    -- leaving two true blocks with an else line, at their ends, is two steps; a verdict, a wait or outcome 3 inside one is no such step
     ++ meets nested (pos 6 ∷ []) (bytes "Q,N\nA,6\nS,big\n") 1 1 8
     ++ meets nested (pos 3 ∷ []) (bytes "Q,N\nA,3\nV,three\n") 0 1 5
     ++ meets nested (pos 4 ∷ []) (bytes "Q,N\nA,4\n") 1 1 7
     ++ meets nested (negsuc 0 ∷ []) (bytes "Q,N\nA,-1\nS,less\n") 1 1 5
+    ++ meets (bytes "if,0,eq,0\nprintex,a\nelse\nprint,b\nfi\n") [] (bytes "V,a\n") 0 0 2
     ++ meets (bytes "if,0,eq,0\ninput,0,a\nelse\nprint,b\nfi\n") [] (bytes "Q,a\n") 2 0 2
+    ++ meets (bytes "if,0,eq,0\ninputs,0,q,a,b\nelse\nprint,b\nfi\n") (pos 2 ∷ []) (bytes "C,q,a,b\n") 3 0 2
     -- a buffer just long enough, and one byte less; scratch of 512 and of 511
     ++ fits (walkCall choice [] (pos 0 ∷ [])) (bytes "C,Lamp,on,off\nA,0\n") (ended 18 1 1 2)
     ++ fits

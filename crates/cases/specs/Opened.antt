@@ -24,10 +24,13 @@ use Rattle.running.specs.Call as RunCall
 use Rattle.running.specs.Run as Run
 use Rattle.translate.specs.Call as TranslateCall
 use Rattle.translate.specs.Translation as TranslateTranslation
+use Rattle.printed.specs.Lines as PrintedLines
+use Rattle.printed.specs.Pairs as PrintedPairs
+use Rattle.show.specs.Show as Show
 use Rattle.cases.specs.Agree.{allAgree}
 use Rattle.cases.specs.Guides.{phraseLines}
 use Rattle.cases.specs.Row.{hex, bitsIn, times, numbered}
 
 unfoldable pub opened : ℕ
-unfolding allAgree phraseLines hex bitsIn times numbered Bits.bitsOf Bits.valueOf Bits.bytesBits Bits.filled Bits.bytesOf Bits.pack TextNumber.valueFrom TextNumber.isNatural TextNumber.natural TextNumber.constant TextNumber.digits TextNumber.decimal TextParts.split TextParts.join TextParts.same TextParts.all Text.isText PhrasesBook.phrasesFrom PhrasesBook.bookPhrases Phrases.place Phrases.find Phrases.widthFrom Phrases.width TranscriptPerform.perform TranscriptPerform.holds TranscriptPerform.report TranscriptState.lineBytes TranscriptState.transcriptBytes TranscriptState.start TranscriptWaiting.endsAsking LinesCheck.checkFrom LinesCheck.checkLines LinesCheck.accept LinesLine.operator LinesLine.kindLine LinesLine.lineOf LinesLine.linesIn Plate.characters Plate.spelled Plate.ownFrom Plate.ownCount Plate.phraseAt Plate.phrase Plate.text Plate.constant Plate.test Plate.skip Plate.options Plate.instruction Plate.program Plate.zeros Plate.filling Plate.wholePlate Plate.plateProgram PlateReading.number PlateReading.judged PlateReading.return PlateReading._>>=_ PlateReading.many PlateWriting.spelledBits PlateWriting.textBits PlateWriting.textsBits PlateWriting.constantBits PlateWriting.instructionsBits PlateWriting.phrasesBits PlateWriting.ownBits PlateWriting.programBits PlateWriting.plateBytes ListingCalls.writtenPlate ListingCalls.readListing ListingCalls.writePlateCall ListingCalls.readPlateCall Listing.programFields Listing.linesText Listing.listingText Listing.instructionsOf Listing.firstPast Listing.listingProgram GuideBlock.parse GuideBlock.blockOf Guide.guideOf WalkCall.walked WalkCall.walkCall Walk.walk RunCall.ran RunCall.runCall Run.run TranslateCall.translation TranslateCall.translateCall TranslateTranslation.translateBlock TranslateTranslation.translateGuide
+unfolding allAgree phraseLines hex bitsIn times numbered Bits.bitsOf Bits.valueOf Bits.bytesBits Bits.filled Bits.bytesOf Bits.pack TextNumber.valueFrom TextNumber.isNatural TextNumber.natural TextNumber.constant TextNumber.digits TextNumber.decimal TextParts.split TextParts.join TextParts.same TextParts.all Text.isText PhrasesBook.phrasesFrom PhrasesBook.bookPhrases Phrases.place Phrases.find Phrases.widthFrom Phrases.width TranscriptPerform.perform TranscriptPerform.holds TranscriptPerform.report TranscriptState.lineBytes TranscriptState.transcriptBytes TranscriptState.start TranscriptWaiting.endsAsking LinesCheck.checkFrom LinesCheck.checkLines LinesCheck.accept LinesLine.operator LinesLine.kindLine LinesLine.lineOf LinesLine.linesIn Plate.characters Plate.spelled Plate.ownFrom Plate.ownCount Plate.phraseAt Plate.phrase Plate.text Plate.constant Plate.test Plate.skip Plate.options Plate.instruction Plate.program Plate.zeros Plate.filling Plate.wholePlate Plate.plateProgram PlateReading.number PlateReading.judged PlateReading.return PlateReading._>>=_ PlateReading.many PlateWriting.spelledBits PlateWriting.textBits PlateWriting.textsBits PlateWriting.constantBits PlateWriting.instructionsBits PlateWriting.phrasesBits PlateWriting.ownBits PlateWriting.programBits PlateWriting.plateBytes ListingCalls.writtenPlate ListingCalls.readListing ListingCalls.writePlateCall ListingCalls.readPlateCall Listing.programFields Listing.linesText Listing.listingText Listing.instructionsOf Listing.firstPast Listing.listingProgram GuideBlock.parse GuideBlock.blockOf Guide.guideOf WalkCall.walked WalkCall.walkCall Walk.walk RunCall.ran RunCall.runCall Run.run TranslateCall.translation TranslateCall.translateCall TranslateTranslation.translateBlock TranslateTranslation.translateGuide PrintedLines.plateLine PrintedLines.refusedLine PrintedPairs.pairs Show.accepted Show.shown
 opened = 0

@@ -1,5 +1,5 @@
--- Document 01, "Walked by hand": cases (a) to (i).
-use Prim.Native.Nat.{ℕ}
+-- Document 01, "Walked by hand": cases (a) to (i), and what plateshow prints.
+use Prim.Native.Nat.{ℕ, _+_}
 use mathlib.Core.List.{List, [], _∷_, _++_}
 use lib.ListN.{length}
 use lib.IntN.{pos, negsuc}
@@ -7,10 +7,12 @@ use Rattle.causes.specs.Answers.{Result, made, refused}
 use Rattle.text.specs.Quoted.{bytes}
 use Rattle.plate.specs.Program.{Program}
 use Rattle.plate.specs.Writing.{programBits, constantBits}
+use Rattle.plate.specs.Plate.{plateProgram}
 use Rattle.listing.specs.Listing.{listingProgram}
 use Rattle.listing.specs.Calls.{readPlateCall, writePlateCall}
 use Rattle.translate.specs.Call.{translateCall, translation}
-use Rattle.cases.specs.Row.{Row, _counts_, hex, refuses, writes, meets, bytesMade}
+use Rattle.show.specs.Show.{shown}
+use Rattle.cases.specs.Row.{Row, _counts_, _prints_, hex, times, printLine, refuses, writes, meets, bytesMade}
 
 -- (a)
 abbrev pub guideA : List ℕ
@@ -38,12 +40,22 @@ bitsOfProgram (refused cause place) = 0
 abbrev pub bitCount : List ℕ → ℕ
 bitCount listing = bitsOfProgram (listingProgram [] listing)
 
+-- the instructions on the plate of a guide, with no book
+abbrev pub instructionsOfProgram : Result Program → ℕ
+instructionsOfProgram (made p) = length (p .instructions)
+instructionsOfProgram (refused cause place) = 0
+
+abbrev pub instructionCount : List ℕ → ℕ
+instructionCount guide = instructionsOfProgram (plateProgram [] (bytesMade (translation [] guide)))
+
 abbrev pub paper : List Row
 paper =
     -- (a)
-    writes (translateCall guideA []) (hex "002C9F2C18")
+    ((shown guideA prints bytes "printex,OK\nplate,002C9F2C18\n") ∷ [])
+    ++ writes (translateCall guideA []) (hex "002C9F2C18")
     ++ writes (readPlateCall (hex "002C9F2C18") []) guideA
-    -- (b)
+    -- (b): the listing's second line is `if,0,lt,100,2`, its fourth `goto,0`
+    ++ ((shown guideB prints listingB ++ bytes "plate,00A0056DFB3A730740800640132375E7941C00227CB060\n") ∷ [])
     ++ writes (translateCall guideB []) plateB
     ++ writes (readPlateCall plateB []) listingB
     ++ writes (writePlateCall listingB []) plateB
@@ -56,17 +68,23 @@ paper =
     ++ writes
     (readPlateCall (bytesMade (translation [] guideF)) [])
     (bytes "if,0,eq,0,2\nprint,a\ngoto,0\nprint,b\n")
+    ++ ((instructionCount guideF counts 4) ∷ [])
     ++ meets guideF [] (bytes "S,a\nS,b\n") 1 0 4
     -- (g)
+    ++ ((shown [] prints bytes "plate,0000\n") ∷ [])
     ++ writes (translateCall [] []) (hex "0000")
     ++ writes (readPlateCall (hex "0000") []) []
     ++ meets [] [] [] 1 0 0
-    -- (h): the code takes 2 bits
-    ++ ((length (constantBits (pos 32767)) counts 18)
-    ∷ (length (constantBits (negsuc 32767)) counts 18)
-    ∷ (length (constantBits (pos 32768)) counts 34)
-    ∷ (length (constantBits (negsuc 32768)) counts 34)
+    -- (h): the two-bit code, and 16 bits for 32767 and -32768, 32 for 32768 and -32769
+    ++ ((length (constantBits (pos 32767)) counts 2 + 16)
+    ∷ (length (constantBits (negsuc 32767)) counts 2 + 16)
+    ∷ (length (constantBits (pos 32768)) counts 2 + 32)
+    ∷ (length (constantBits (negsuc 32768)) counts 2 + 32)
     ∷ [])
     -- (i)
     ++ writes (writePlateCall (bytes "goto,0\n") []) (hex "003000")
     ++ refuses (writePlateCall (bytes "goto,1\n") []) 8 1
+    -- plateshow on a refused guide: an unknown kind at line 2, the 513th instruction, a plate of 2,954 bytes
+    ++ ((shown (bytes "print,a\nnone\n") prints bytes "refused,4,2\n") ∷ [])
+    ++ ((shown (times 513 (bytes "print,a\n")) prints bytes "refused,9,513\n") ∷ [])
+    ++ ((shown (times 51 (printLine 64) ++ printLine 21) prints bytes "refused,10,0\n") ∷ [])

@@ -10,6 +10,7 @@ use lib.IntN.{ℤ}
 use Rattle.causes.specs.Answers.{Result, made, refused, Answer, wrote, ended, refusal}
 use Rattle.bits.specs.Bits.{pack}
 use Rattle.text.specs.Parts.{LF}
+use Rattle.text.specs.Quoted.{bytes}
 use Rattle.decimals.specs.Number.{decimalℕ}
 use Rattle.walking.specs.Call.{walkCall}
 use Rattle.running.specs.Call.{runCall}
@@ -21,22 +22,28 @@ pub data Row : Type 0 where
   _gives_ : Answer × List ℕ → Answer × List ℕ → Row
   -- a count
   _counts_ : ℕ → ℕ → Row
+  -- a printed text
+  _prints_ : List ℕ → List ℕ → Row
 
 infix 10 _gives_
 infix 10 _counts_
+infix 10 _prints_
 pub data Worth : Type 0 where
   returned : Answer × List ℕ → Worth
   counted : ℕ → Worth
+  text : List ℕ → Worth
 
 unfoldable pub computed : List Row → List Worth
 computed [] = []
 computed ((c gives w) ∷ rows) = returned c ∷ computed rows
 computed ((c counts w) ∷ rows) = counted c ∷ computed rows
+computed ((c prints w) ∷ rows) = text c ∷ computed rows
 
 unfoldable pub worked : List Row → List Worth
 worked [] = []
 worked ((c gives w) ∷ rows) = returned w ∷ worked rows
 worked ((c counts w) ∷ rows) = counted w ∷ worked rows
+worked ((c prints w) ∷ rows) = text w ∷ worked rows
 
 -- ---- bytes by other names
 
@@ -64,6 +71,10 @@ module _ {A : Type 0} where
   unfoldable pub times : ℕ → List A → List A
   times zero s = []
   times (suc n) s = s ++ times n s
+
+-- a print line with a text of n bytes
+abbrev pub printLine : ℕ → List ℕ
+printLine n = bytes "print," ++ replicate n 97 ++ bytes "\n"
 
 -- n lines, with the numbers from 0
 unfoldable pub numbered : ℕ → List ℕ
@@ -105,11 +116,15 @@ abbrev pub bytesMade : Result (List ℕ) → List ℕ
 bytesMade (made bs) = bs
 bytesMade (refused cause place) = []
 
--- a guide walked, and its plate run: the transcript, the outcome, the answers taken and the steps
-abbrev pub meets : List ℕ → List ℤ → List ℕ → ℕ → ℕ → ℕ → List Row
-meets guide answers transcript outcome taken steps =
-    (walkCall guide [] answers (untouched (length transcript + 2))
-    gives (ended (length transcript) outcome taken steps, transcript ++ untouched 2))
-    ∷ (runCall (bytesMade (translation [] guide)) [] answers 512 (untouched (length transcript + 2))
+-- a walk or a run, with the buffer's other bytes as they were: the transcript, the outcome, the answers taken and the steps
+abbrev pub ends : (List ℕ → Answer × List ℕ) → List ℕ → ℕ → ℕ → ℕ → List Row
+ends call transcript outcome taken steps =
+    (call (untouched (length transcript + 2))
     gives (ended (length transcript) outcome taken steps, transcript ++ untouched 2))
     ∷ []
+
+-- a guide walked, and its plate run, with no book
+abbrev pub meets : List ℕ → List ℤ → List ℕ → ℕ → ℕ → ℕ → List Row
+meets guide answers transcript outcome taken steps =
+    ends (walkCall guide [] answers) transcript outcome taken steps
+    ++ ends (runCall (bytesMade (translation [] guide)) [] answers 512) transcript outcome taken steps

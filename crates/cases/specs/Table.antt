@@ -6,6 +6,7 @@ use Rattle.cases.specs.Machine.{machine}
 use Rattle.cases.specs.Guides.{guides}
 use Rattle.cases.specs.Listings.{listings}
 use Rattle.cases.specs.Plates.{plates}
+use Rattle.cases.specs.Runs.{runs}
 
 unfoldable pub table : List Row
-table = paper ++ machine ++ guides ++ listings ++ plates
+table = paper ++ machine ++ guides ++ listings ++ plates ++ runs

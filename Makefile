@@ -1,8 +1,8 @@
 # test: the whole verdict, from nothing. show: the listing and the plate of a guide.
 # library: the C archive and its header, in target/library. example-c: a C program that links it, on the guides of examples/.
 # fuzz: the archive beside the model on N cases of a seed. bench: time, growth, stack, bytes of code and, by count, instructions (callgrind).
-# tools: the four tools, in target/bin. tools-test: their stored runs.
-.PHONY: test show library example-c fuzz bench count harness-test tools tools-test
+# tools: the four tools, in target/bin. tools-test: their stored runs. names: what the documents name, looked up.
+.PHONY: test show library example-c fuzz bench count harness-test tools tools-test names
 
 GUIDE = examples/incident.guide
 N = 1000000
@@ -26,6 +26,9 @@ tools:
 
 tools-test: tools
 	sh tests/tools.sh
+
+names:
+	sh tests/names.sh
 
 library:
 	rt check doorplate

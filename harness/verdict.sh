@@ -1,6 +1,6 @@
 #!/bin/sh
-# What make test runs behind the model's tests: rt ci; then, where it passed, the archive beside the model, the C example
-# and the stored runs of the tools.
+# What make test runs behind the model's tests: rt ci; then, where it passed, the archive beside the model, the C example,
+# the stored runs of the tools, and the names in the documents.
 # The last line is rt ci's own tally, or says what failed.
 set -u
 cd "$(dirname "$0")/.." || exit 2
@@ -26,4 +26,5 @@ step fuzz N=100000
 step harness-test
 step example-c
 step tools-test
+step names
 echo "$tally"

@@ -9,7 +9,7 @@ use Rattle.text.specs.Parts.{split, onFirst, LF}
 use Rattle.lines.specs.declared.Form.the-variants.{Guide as aGuide}
 use Rattle.lines.specs.Line.{Line, linesIn}
 use Rattle.lines.specs.Check.{linesOf}
-use Rattle.guide.specs.Lines.{roleOf, inBlock, bodyLines}
+use Rattle.guide.specs.Lines.{roleOf, inBlock, bodyLines, linesAt}
 
 parts-few : (x : ℕ) (s : List ℕ) → length (split x s) ≤ suc (length s)
 unfolding split
@@ -43,5 +43,6 @@ body-few (l ∷ ls) = go (inBlock (roleOf l)) (bodyLines ls) (body-few ls)
 pub all-lines : (g : List ℕ) → length (linesOf aGuide g) ≤ suc (length g)
 all-lines g = omega (arith, lines-few (split LF g), parts-few LF g)
 
-pub few-lines : (g : List ℕ) → length (bodyLines (linesOf aGuide g)) ≤ suc (length g)
+pub few-lines : (g : List ℕ) → length (linesAt g 0) ≤ suc (length g)
+unfolding linesAt
 few-lines g = omega (arith, body-few (linesOf aGuide g), all-lines g)

@@ -4,14 +4,15 @@ use native.Mathlib.Omega.{arith}
 use native.Mathlib.Numerals.{sub-one}
 use mathlib.Core.Path.{_≡_, refl, sym, ap, _∙_}
 use mathlib.Core.List.{List, [], _∷_}
-use mathlib.Core.Bool.{true, false, true≢false}
-use lib.ListN.{drop}
+use mathlib.Core.Bool.{Bool, true, false, true≢false}
+use lib.ListN.{length, drop}
 use lib.Dec.{eqb}
 use borrow.Author.Tests.{eq-eqb, ne-eqb}
 use Rattle.lines.specs.Line.{Line}
 use Rattle.guide.specs.declared.Role.{Role}
 use Rattle.guide.specs.declared.Role.the-variants.{Statement, If, Else, Fi, Nothing}
-use Rattle.guide.specs.Lines.{inBlock, linesAt, firstRole, stops, openBehind, pass, Reads}
+use Rattle.guide.specs.Lines.{roleOf, inBlock, linesAt, firstRole, stops, openBehind, pass, Reads}
+use Rattle.guide.proofs.Reading.{rest-no-more}
 
 -- ---- the tests
 
@@ -51,6 +52,17 @@ unfolding pass
 go d [] h = absurd (true≢false h)
 go d (l ∷ ls) h = rw (h, pass)
 
+-- no more lines are left
+pass-no-more : (d : ℕ) (ls : List Line) → length (pass d ls) ≤ length ls
+unfolding pass
+pass-no-more d [] = omega arith
+pass-no-more d (l ∷ ls) = left (stops (roleOf l) d) (pass-no-more (openBehind (roleOf l) d) ls)
+  where
+    left : (v : Bool) → length (pass (openBehind (roleOf l) d) ls) ≤ length ls
+        → length {A = Line} (elim v [ true ↦ l ∷ ls | false ↦ pass (openBehind (roleOf l) d) ls ]) ≤ suc (length ls)
+    left true h = omega arith
+    left false h = omega arith
+
 module _ (g : List ℕ) (a d : ℕ) (role : Role) (n : ℕ) (r : Reads g a role n) where
   pub pass-stops : stops role d ≡ true → pass d (linesAt g a) ≡ linesAt g a
   pass-stops v = stop d (linesAt g a) (rw (r .role) at v)
@@ -60,3 +72,8 @@ module _ (g : List ℕ) (a d : ℕ) (role : Role) (n : ℕ) (r : Reads g a role 
 
   pub pass-further : stops role d ≡ false → a < n
   pass-further v = r .further (goes-in role d v)
+
+-- behind a block that is passed over up to p, and the line where it ends
+pub passed-no-more : (g : List ℕ) (a p : ℕ) (role : Role) (n : ℕ) → linesAt g p ≡ pass 0 (linesAt g a) → Reads g p role n
+    → length (linesAt g n) ≤ length (linesAt g a)
+passed-no-more g a p role n e r = omega (arith, rest-no-more g p role n r, ap length e, pass-no-more 0 (linesAt g a))

@@ -4,7 +4,7 @@ use native.Mathlib.Omega.{arith}
 use mathlib.Core.Path.{_≡_, refl, sym, ap, _∙_}
 use mathlib.Core.List.{List, [], _∷_}
 use mathlib.Core.Bool.{true, false, false≢true}
-use lib.ListN.{length, take, drop, getD, drop-of-length-le}
+use lib.ListN.{length, take, drop, getD, length-drop, drop-of-length-le}
 use Rattle.causes.specs.declared.Cause.the-variants.{Byte}
 use Rattle.text.specs.Parts.{split, untilByte, same, all, comma, LF}
 use Rattle.text.proofs.Places.{part-last}
@@ -151,9 +151,6 @@ begins-in Nothing h = absurd (false≢true h)
 pub begins-first : (g : List ℕ) (a : ℕ) (h : Here) → ReadsLine g a h → beginsBy (h .role) ≡ true → First g a h
 begins-first g a h r v = r .first (begins-in (h .role) v)
 
-pub begins-further : (g : List ℕ) (a : ℕ) (role : Role) (n : ℕ) → Reads g a role n → beginsBy role ≡ true → a < n
-begins-further g a role n r v = r .further (begins-in role v)
-
 -- and so there is where an `else` stands
 else-in : (r : Role) → elseBy r ≡ true → inBlock r ≡ true
 else-in Statement h = refl
@@ -162,5 +159,21 @@ else-in Else h = refl
 else-in Fi h = refl
 else-in Nothing h = absurd (false≢true h)
 
-pub else-further : (g : List ℕ) (a : ℕ) (role : Role) (n : ℕ) → Reads g a role n → elseBy role ≡ true → a < n
-else-further g a role n r v = r .further (else-in role v)
+-- ---- the lines behind the one that is read
+
+module _ (g : List ℕ) (a : ℕ) (role : Role) (n : ℕ) (r : Reads g a role n) where
+  pub rest-no-more : length (linesAt g n) ≤ length (linesAt g a)
+  rest-no-more = omega (arith, ap length (r .rest), length-drop 1 (linesAt g a))
+
+  one-less : inBlock role ≡ true → length (linesAt g n) < length (linesAt g a)
+  one-less v = omega (arith, ap length (r .rest), go (linesAt g a) (ap inBlock (sym (r .role)) ∙ v))
+    where
+      go : (ls : List Line) → inBlock (firstRole ls) ≡ true → length (drop 1 ls) < length ls
+      go [] h = absurd (false≢true h)
+      go (l ∷ ls) h = omega arith
+
+  pub begins-less : beginsBy role ≡ true → length (linesAt g n) < length (linesAt g a)
+  begins-less v = one-less (begins-in role v)
+
+  pub else-less : elseBy role ≡ true → length (linesAt g n) < length (linesAt g a)
+  else-less v = one-less (else-in role v)

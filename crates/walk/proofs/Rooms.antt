@@ -185,7 +185,7 @@ text-room : (g : List ℕ) (from : ℕ) (answers : List ℤ) → linesAt g 0 ≡
     → length (transcriptBytes (stateOf (walkText g answers) .transcript)) + 4 * linesCount (linesAt g 0) ≤ (length g - from) + 14 * length answers
 unfolding walkText start transcriptBytes
 text-room g from answers s h =
-    omega (arith, descend-within (length g + 2) (start answers) (linesAt g 0), ap linesSize s, guide-room g from, length-drop from g, answers-room answers h)
+    omega (arith, descend-within (length (linesAt g 0)) (start answers) (linesAt g 0), ap linesSize s, guide-room g from, length-drop from g, answers-room answers h)
 
 module _ (g : List ℕ) (answers rs : List ℤ) (p : Performed) (o out : List ℕ) (e : performed rs answers p o ≡ laid 0 (walkText g answers) out) where
   -- a buffer of so many bytes takes it

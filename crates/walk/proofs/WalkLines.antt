@@ -1,5 +1,5 @@
 -- The walk over the lines of a block is the walk of the block.
-use Prim.Native.Nat.{ℕ, zero, suc, _<_}
+use Prim.Native.Nat.{ℕ, zero, suc, _≤_}
 use native.Mathlib.Omega.{arith}
 use mathlib.Core.Path.{_≡_, refl, sym, ap, _∙_}
 use mathlib.Core.List.{List, [], _∷_, _++_, append-assoc, append-nil}
@@ -107,7 +107,7 @@ no-begin Else h = refl
 no-begin Fi h = refl
 no-begin Nothing h = refl
 
-walk-block : (b : Block) (n : ℕ) (s : State) (rest : List Line) → stops (firstRole rest) 0 ≡ true → length (blockLines b ++ rest) < n
+walk-block : (b : Block) (n : ℕ) (s : State) (rest : List Line) → stops (firstRole rest) 0 ≡ true → length (blockLines b ++ rest) ≤ n
     → descend n s (blockLines b ++ rest) ≡ follow (walk b s) rest here
 unfolding descend blockWith statementWith walk blockLines pass
 walk-block empty n s rest c l = sym (descend-ends n s rest (no-begin (firstRole rest) c))
@@ -119,8 +119,8 @@ walk-block (ifThen test t b) zero s rest c l = absurd (omega arith)
 walk-block (ifThen test t b) (suc n) s rest c l =
     let ls = blockLines b ++ rest in
     let group = append-assoc (blockLines t) (fiLine ∷ blockLines b) rest in
-    let size : length (blockLines t ++ (fiLine ∷ ls)) < n = omega (arith, ap length group) in
-    let inner : length ls < n = omega (arith, length-append (blockLines t) (fiLine ∷ ls)) in
+    let size : length (blockLines t ++ (fiLine ∷ ls)) ≤ n = omega (arith, ap length group) in
+    let inner : length ls ≤ n = omega (arith, length-append (blockLines t) (fiLine ∷ ls)) in
     ap (λ (l : List Line). next (walkIf (holds test s) (descend n) (step s) l) (descend n)) group
     ∙ if-walked (descend n) (walk b) ls rest (λ u. walk-block b n u rest c inner) (holds test s) (walk t) (blockLines t ++ (fiLine ∷ ls)) (step s)
     (walk-block t n (step s) (fiLine ∷ ls) refl size)
@@ -131,9 +131,9 @@ walk-block (ifElse test t o b) (suc n) s rest c l =
     let os = blockLines o ++ (fiLine ∷ ls) in
     let ts = blockLines t ++ (elseLine ∷ os) in
     let group : (blockLines t ++ (elseLine ∷ (blockLines o ++ (fiLine ∷ blockLines b)))) ++ rest ≡ ts = simp append-assoc in
-    let size : length ts < n = omega (arith, ap length group) in
-    let second : length os < n = omega (arith, length-append (blockLines t) (elseLine ∷ os)) in
-    let inner : length ls < n = omega (arith, length-append (blockLines o) (fiLine ∷ ls)) in
+    let size : length ts ≤ n = omega (arith, ap length group) in
+    let second : length os ≤ n = omega (arith, length-append (blockLines t) (elseLine ∷ os)) in
+    let inner : length ls ≤ n = omega (arith, length-append (blockLines o) (fiLine ∷ ls)) in
     ap (λ (l : List Line). next (walkIf (holds test s) (descend n) (step s) l) (descend n)) group
     ∙ else-walked (descend n) (walk b) ls rest (λ u. walk-block b n u rest c inner) (holds test s) (walk t) (walk o) ts os (step s)
     (walk-block t n (step s) (elseLine ∷ os) refl size)
@@ -142,11 +142,10 @@ walk-block (ifElse test t o b) (suc n) s rest c l =
     (pass-block o 0 (fiLine ∷ ls))
 
 -- lines that make one block
-pub walk-lines : (n : ℕ) (ls : List Line) (b : Block) (s : State) → parse ls ≡ parsed b [] → length (bodyLines ls) < n
-    → descend n s (bodyLines ls) .ending ≡ walk b s
-walk-lines n ls b s e h =
+pub walk-lines : (ls : List Line) (b : Block) (s : State) → parse ls ≡ parsed b []
+    → descend (length (bodyLines ls)) s (bodyLines ls) .ending ≡ walk b s
+walk-lines ls b s e =
     let p : blockLines b ++ [] ≡ bodyLines ls = append-nil (blockLines b) ∙ parse-sound ls b e in
-    let l : length (blockLines b ++ []) < n = rw p h in
-    ap (λ (k : List Line). descend n s k .ending) (sym p)
-    ∙ ap (λ (w : Left). w .ending) (walk-block b n s [] refl l)
+    ap (λ (k : List Line). descend (length k) s k .ending) (sym p)
+    ∙ ap (λ (w : Left). w .ending) (walk-block b (length (blockLines b ++ [])) s [] refl (omega arith))
     ∙ sym (follow-here (walk b s) [])

@@ -1,5 +1,5 @@
 -- The call: a refusal of the book or of the guide, and the walk over the guide's lines.
-use Prim.Native.Nat.{ℕ, _+_}
+use Prim.Native.Nat.{ℕ}
 use native.Mathlib.Omega.{arith}
 use mathlib.Core.Path.{_≡_, sym, ap, _∙_}
 use mathlib.Core.List.{List}
@@ -26,24 +26,23 @@ use Rattle.guide.specs.Block.{blockOf}
 use Rattle.guide.specs.Guide.{guideOf}
 use Rattle.guide.specs.Lines.{linesAt}
 use Rattle.guide.proofs.Accepted.{accepted-guide}
-use Rattle.guide.proofs.Counting.{few-lines}
 use Rattle.walking.specs.Call.{walked, walkCall}
 use Rattle.walk_blocks.specs.declared.Walked.{Walked}
 use Rattle.walk_blocks.specs.Descend.{descend, walkText}
-use Rattle.walk_blocks.specs.Leaves.{Leaves}
+use Rattle.walk_blocks.specs.Leaves.{LeavesFrom}
 use Rattle.walk.proofs.WalkLines.{walk-lines}
 
 -- ---- the walk over the lines, from the start
 
 pub text-laid : (g : List ℕ) (from : ℕ) (answers rs : List ℤ) (m : Machine) (w : Walked) (us : List ℤ) (o out : List ℕ)
-    → Leaves g answers w us o 0 (descend (length g + 2) (machineState rs answers m) (linesAt g from)) out
+    → LeavesFrom g from answers w us o 0 (λ n. descend n (machineState rs answers m) (linesAt g from)) out
     → linesAt g 0 ≡ linesAt g from → machineState rs answers m ≡ start answers
     → performed us answers (w .left) o ≡ laid 0 (walkText g answers) out
 unfolding walkText
 text-laid g from answers rs m w us o out f s e =
-    f .left
-    ∙ ap (λ (s : State). laid 0 (descend (length g + 2) s (linesAt g from) .ending) out) e
-    ∙ ap (λ (ls : List Line). laid 0 (descend (length g + 2) (start answers) ls .ending) out) (sym s)
+    f (length (linesAt g from)) (omega arith) .left
+    ∙ ap (λ (s : State). laid 0 (descend (length (linesAt g from)) s (linesAt g from) .ending) out) e
+    ∙ ap (λ (ls : List Line). laid 0 (descend (length ls) (start answers) ls .ending) out) (sym s)
 
 -- ---- the book and the guide
 
@@ -66,7 +65,7 @@ module _ (g book : List ℕ) (answers : List ℤ) where
       let matched = accepted-guide (bookTexts book) g _ accepted .matched in
       rw (book-is book e, accepted)
       (ap (λ (w : Ending). made (report w))
-      (sym (walk-lines (length g + 2) (linesOf aGuide g) (blockOf (linesOf aGuide g)) (start answers) matched (omega (arith, few-lines g)))))
+      (sym (walk-lines (linesOf aGuide g) (blockOf (linesOf aGuide g)) (start answers) matched)))
 
   -- ---- what the call leaves
 

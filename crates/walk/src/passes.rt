@@ -54,7 +54,6 @@ fn produce(guide: &[u8], from: usize, answers: &[i32], out: &mut [u8]) -> Perfor
         answers,
         &mut registers,
         out,
-        guide.len() + 2,
         from,
         0,
         machine::fresh(),

@@ -1,5 +1,6 @@
 -- The walk over lines at each place where the code's block, its statement and the blocks of an if return.
-use Prim.Native.Nat.{ℕ, zero, suc, _-_, _<_}
+use Prim.Native.Nat.{ℕ, zero, suc, _-_, _≤_, _<_}
+use native.Mathlib.Omega.{arith}
 use native.Mathlib.Numerals.{sub-one}
 use mathlib.Core.Path.{_≡_, refl, sym, ap, _∙_}
 use mathlib.Core.List.{List, [], _∷_}
@@ -13,19 +14,16 @@ use Rattle.lines.specs.Line.{Line, lineOf}
 use Rattle.guide.specs.declared.Here.{Here}
 use Rattle.guide.specs.declared.Role.{Role}
 use Rattle.guide.specs.Lines.{firstRole, beginsBy, elseBy, linesAt, pass, lineText, Reads, ReadsLine}
-use Rattle.guide.proofs.Reading.{begins-first}
+use Rattle.guide.proofs.Reading.{begins-first, begins-less}
+use Rattle.guide.proofs.Passing.{passed-no-more}
 use Rattle.walk_blocks.specs.declared.Walked.{Walked}
 use Rattle.walk_blocks.specs.Descend.{Left, here, next, atElse, leaveTrue, leaveElse, elseBlock, walkIf, statementWith, blockWith, descend}
-use Rattle.walk_blocks.specs.Leaves.{Leaves}
+use Rattle.walk_blocks.specs.Leaves.{Leaves, LeavesFrom}
 use Rattle.walk_blocks.specs.Says.{isEnd}
 use Rattle.walk_blocks.proofs.Adding.{true-adds, else-adds, descend-adds}
 use Rattle.walk_blocks.proofs.Leaving.{leaves-as, leaves-ended, leaves-goes}
 
 module _ (n : ℕ) (s : State) (ls : List Line) where
-  descend-none : n ≡ 0 → here s ls ≡ descend n s ls
-  unfolding descend
-  descend-none e = rw e
-
   pub descend-ends : beginsBy (firstRole ls) ≡ false → here s ls ≡ descend n s ls
   unfolding descend blockWith
   descend-ends v = go n
@@ -34,13 +32,13 @@ module _ (n : ℕ) (s : State) (ls : List Line) where
       go zero = refl
       go (suc n) = rw v
 
-  descend-more : (n ≡ 0 → ⊥) → beginsBy (firstRole ls) ≡ true → next (statementWith (descend (n - 1)) s ls) (descend (n - 1)) ≡ descend n s ls
+  descend-more : 0 < n → beginsBy (firstRole ls) ≡ true → next (statementWith (descend (n - 1)) s ls) (descend (n - 1)) ≡ descend n s ls
   unfolding descend blockWith
-  descend-more e v = go n e
+  descend-more l v = go n l
     where
-      go : (n : ℕ) → (n ≡ 0 → ⊥) → next (statementWith (descend (n - 1)) s ls) (descend (n - 1)) ≡ descend n s ls
-      go zero e = absurd (e refl)
-      go (suc n) e = rw (sub-one, v)
+      go : (n : ℕ) → 0 < n → next (statementWith (descend (n - 1)) s ls) (descend (n - 1)) ≡ descend n s ls
+      go zero l = absurd (omega arith)
+      go (suc n) l = rw (sub-one, v)
 
 -- ---- behind the blocks of an if
 
@@ -64,76 +62,91 @@ module _ (g : List ℕ) (a : ℕ) (role : Role) (n : ℕ) (r : Reads g a role n)
   unfolding leaveElse
   leave-second s = rw (r .rest) refl
 
--- ---- the rest of a block
+-- ---- a block and the rest of it
 
--- what leaves the walk of n lines from the place a on so, leaves the whole block so: v, written from `first` on into `old`
-abbrev pub Rest : List ℕ → List ℤ → ℕ → ℕ → State → ℕ → List ℕ → ℕ → Left → List ℕ → Type 0
-Rest g answers n a s at out first v old =
-    (w : Walked) (rs : List ℤ) (o : List ℕ) → Leaves g answers w rs o at (descend n s (linesAt g a)) out → Leaves g answers w rs o first v old
+-- the block that begins at a is left so
+abbrev pub BlockLeft : List ℕ → List ℤ → ℕ → State → Walked → List ℤ → List ℕ → ℕ → List ℕ → Type 0
+BlockLeft g answers a s w rs o at out = LeavesFrom g a answers w rs o at (λ n. descend n s (linesAt g a)) out
+
+-- what leaves the block from the place a on so, leaves the whole block so, which begins at b, is walked from t, and is written from `first` on
+-- into `old`
+abbrev pub Rest : List ℕ → List ℤ → ℕ → State → ℕ → List ℕ → ℕ → State → ℕ → List ℕ → Type 0
+Rest g answers a s at out b t first old =
+    (w : Walked) (rs : List ℤ) (o : List ℕ) → BlockLeft g answers a s w rs o at out → BlockLeft g answers b t w rs o first old
 
 -- ---- what is left
 
 module _ (g : List ℕ) (answers : List ℤ) (at : ℕ) (out : List ℕ) where
-  pub block-none : (n a : ℕ) (s : State) (w : Walked) (rs : List ℤ) (o : List ℕ) → n ≡ 0 → Leaves g answers w rs o at (here s (linesAt g a)) out
-      → Leaves g answers w rs o at (descend n s (linesAt g a)) out
-  block-none n a s w rs o e f = leaves-as g answers w rs o at _ out f _ (descend-none n s (linesAt g a) e)
-
-  pub block-ends : (n a : ℕ) (s : State) (h : Here) (w : Walked) (rs : List ℤ) (o : List ℕ) → ReadsLine g a h → beginsBy (h .role) ≡ false
-      → Leaves g answers w rs o at (here s (linesAt g a)) out → Leaves g answers w rs o at (descend n s (linesAt g a)) out
-  block-ends n a s h w rs o r v f = leaves-as g answers w rs o at _ out f _ (descend-ends n s (linesAt g a) (ap beginsBy (sym (r .reads .role)) ∙ v))
+  pub block-ends : (a : ℕ) (s : State) (h : Here) (w : Walked) (rs : List ℤ) (o : List ℕ) → ReadsLine g a h → beginsBy (h .role) ≡ false
+      → Leaves g answers w rs o at (here s (linesAt g a)) out → BlockLeft g answers a s w rs o at out
+  block-ends a s h w rs o r v f n l = leaves-as g answers w rs o at _ out f _ (descend-ends n s (linesAt g a) (ap beginsBy (sym (r .reads .role)) ∙ v))
 
   -- a statement begins at a, and its line is h
-  module _ (n a : ℕ) (s : State) (h : Here) (r : ReadsLine g a h) (v : beginsBy (h .role) ≡ true) (e : n ≡ 0 → ⊥) (w : Walked) (rs : List ℤ) (o : List ℕ)
-      (f : Leaves g answers w rs o at (statementWith (descend (n - 1)) s (lineOf aGuide (lineText g h) ∷ linesAt g (h .next))) out) where
-    begun : next (statementWith (descend (n - 1)) s (lineOf aGuide (lineText g h) ∷ linesAt g (h .next))) (descend (n - 1))
-        ≡ descend n s (linesAt g a)
-    begun =
-        ap (λ (ls : List Line). next (statementWith (descend (n - 1)) s ls) (descend (n - 1))) (sym (begins-first g a h r v .lines))
-        ∙ descend-more n s (linesAt g a) e (ap beginsBy (sym (r .reads .role)) ∙ v)
+  module _ (a : ℕ) (s : State) (h : Here) (r : ReadsLine g a h) (v : beginsBy (h .role) ≡ true) (w : Walked) (rs : List ℤ) (o : List ℕ)
+      (f : LeavesFrom g (h .next) answers w rs o at (λ n. statementWith (descend n) s (lineOf aGuide (lineText g h) ∷ linesAt g (h .next))) out) where
+    less : length (linesAt g (h .next)) < length (linesAt g a)
+    less = begins-less g a (h .role) (h .next) (r .reads) v
 
-    pub block-ended : isEnd (w .left .outcome) ≡ false → Leaves g answers w rs o at (descend n s (linesAt g a)) out
-    block-ended i = leaves-as g answers w rs o at _ out (leaves-ended g answers w rs o at _ out f (descend (n - 1)) i) _ begun
+    begun : (n : ℕ) → length (linesAt g a) ≤ n
+        → next (statementWith (descend (n - 1)) s (lineOf aGuide (lineText g h) ∷ linesAt g (h .next))) (descend (n - 1))
+        ≡ descend n s (linesAt g a)
+    begun n l =
+        ap (λ (ls : List Line). next (statementWith (descend (n - 1)) s ls) (descend (n - 1))) (sym (begins-first g a h r v .lines))
+        ∙ descend-more n s (linesAt g a) (omega (arith, less)) (ap beginsBy (sym (r .reads .role)) ∙ v)
+
+    pub block-ended : isEnd (w .left .outcome) ≡ false → BlockLeft g answers a s w rs o at out
+    block-ended i n l =
+        leaves-as g answers w rs o at _ out
+        (leaves-ended g answers w rs o at _ out (f (n - 1) (omega (arith, less))) (descend (n - 1)) i)
+        _
+        (begun n l)
 
     pub block-goes : (x : Walked) (us : List ℤ) (new : List ℕ) → isEnd (w .left .outcome) ≡ true
-        → Leaves g answers x us new (w .left .end) (descend (n - 1) (machineState rs answers (w .left .machine)) (linesAt g (w .place))) o
-        → length out < 9223372036854775808 → Leaves g answers x us new at (descend n s (linesAt g a)) out
-    block-goes x us new i k l =
+        → length (linesAt g (w .place)) ≤ length (linesAt g (h .next))
+        → BlockLeft g answers (w .place) (machineState rs answers (w .left .machine)) x us new (w .left .end) o
+        → length out < 9223372036854775808 → BlockLeft g answers a s x us new at out
+    block-goes x us new i m k room n l =
         leaves-as g answers x us new at _ out
-        (leaves-goes g answers w rs o at _ out f (descend (n - 1)) x us new i (descend-adds (n - 1)) k l)
+        (leaves-goes g answers w rs o at _ out (f (n - 1) (omega (arith, less))) (descend (n - 1)) x us new i (descend-adds (n - 1))
+        (k (n - 1) (omega (arith, less, m)))
+        room)
         _
-        begun
+        (begun n l)
 
   -- ---- the true block
 
-  module _ (n : ℕ) (s : State) (ls : List Line) (w : Walked) (rs : List ℤ) (o : List ℕ) (f : Leaves g answers w rs o at (descend n s ls) out) where
-    pub true-ended : isEnd (w .left .outcome) ≡ false → Leaves g answers w rs o at (walkIf true (descend n) s ls) out
+  module _ (a : ℕ) (s : State) (w : Walked) (rs : List ℤ) (o : List ℕ) (f : BlockLeft g answers a s w rs o at out) where
+    pub true-ended : isEnd (w .left .outcome) ≡ false → LeavesFrom g a answers w rs o at (λ n. walkIf true (descend n) s (linesAt g a)) out
     unfolding walkIf
-    true-ended i = leaves-ended g answers w rs o at _ out f leaveTrue i
+    true-ended i n l = leaves-ended g answers w rs o at _ out (f n l) leaveTrue i
 
     pub true-goes : (x : Walked) (us : List ℤ) (new : List ℕ) → isEnd (w .left .outcome) ≡ true
         → Leaves g answers x us new (w .left .end) (leaveTrue (machineState rs answers (w .left .machine)) (linesAt g (w .place))) o
-        → length out < 9223372036854775808 → Leaves g answers x us new at (walkIf true (descend n) s ls) out
+        → length out < 9223372036854775808 → LeavesFrom g a answers x us new at (λ n. walkIf true (descend n) s (linesAt g a)) out
     unfolding walkIf
-    true-goes x us new i k l = leaves-goes g answers w rs o at _ out f leaveTrue x us new i true-adds k l
+    true-goes x us new i k room n l = leaves-goes g answers w rs o at _ out (f n l) leaveTrue x us new i true-adds k room
 
   -- ---- the else block: the true block has been passed over, and h is the first line from its end p on
 
-  module _ (n a p : ℕ) (s : State) (role : Role) (place : ℕ) (e : linesAt g p ≡ pass 0 (linesAt g a)) (r : Reads g p role place) where
+  module _ (a p : ℕ) (s : State) (role : Role) (place : ℕ) (e : linesAt g p ≡ pass 0 (linesAt g a)) (r : Reads g p role place) where
     pub no-else : (w : Walked) (rs : List ℤ) (o : List ℕ) → elseBy role ≡ false → Leaves g answers w rs o at (here s (linesAt g place)) out
-        → Leaves g answers w rs o at (walkIf false (descend n) s (linesAt g a)) out
+        → LeavesFrom g a answers w rs o at (λ n. walkIf false (descend n) s (linesAt g a)) out
     unfolding walkIf elseBlock
-    no-else w rs o v f = leaves-as g answers w rs o at _ out f _ (rw (← e, at-else g p role place r v, r .rest) refl)
+    no-else w rs o v f n l = leaves-as g answers w rs o at _ out f _ (rw (← e, at-else g p role place r v, r .rest) refl)
 
-    module _ (v : elseBy role ≡ true) (w : Walked) (rs : List ℤ) (o : List ℕ) (f : Leaves g answers w rs o at (descend n s (linesAt g place)) out) where
-      turned : next (descend n s (linesAt g place)) leaveElse ≡ walkIf false (descend n) s (linesAt g a)
+    module _ (v : elseBy role ≡ true) (w : Walked) (rs : List ℤ) (o : List ℕ) (f : BlockLeft g answers place s w rs o at out) where
+      turned : (n : ℕ) → next (descend n s (linesAt g place)) leaveElse ≡ walkIf false (descend n) s (linesAt g a)
       unfolding walkIf elseBlock
-      turned = rw (← e, at-else g p role place r v, r .rest) refl
+      turned n = rw (← e, at-else g p role place r v, r .rest) refl
 
-      pub else-ended : isEnd (w .left .outcome) ≡ false → Leaves g answers w rs o at (walkIf false (descend n) s (linesAt g a)) out
-      else-ended i = leaves-as g answers w rs o at _ out (leaves-ended g answers w rs o at _ out f leaveElse i) _ turned
+      left : (n : ℕ) → length (linesAt g a) ≤ n → Leaves g answers w rs o at (descend n s (linesAt g place)) out
+      left n l = f n (omega (arith, passed-no-more g a p role place e r))
+
+      pub else-ended : isEnd (w .left .outcome) ≡ false → LeavesFrom g a answers w rs o at (λ n. walkIf false (descend n) s (linesAt g a)) out
+      else-ended i n l = leaves-as g answers w rs o at _ out (leaves-ended g answers w rs o at _ out (left n l) leaveElse i) _ (turned n)
 
       pub else-goes : (x : Walked) (us : List ℤ) (new : List ℕ) → isEnd (w .left .outcome) ≡ true
           → Leaves g answers x us new (w .left .end) (leaveElse (machineState rs answers (w .left .machine)) (linesAt g (w .place))) o
-          → length out < 9223372036854775808 → Leaves g answers x us new at (walkIf false (descend n) s (linesAt g a)) out
-      else-goes x us new i k l =
-          leaves-as g answers x us new at _ out (leaves-goes g answers w rs o at _ out f leaveElse x us new i else-adds k l) _ turned
+          → length out < 9223372036854775808 → LeavesFrom g a answers x us new at (λ n. walkIf false (descend n) s (linesAt g a)) out
+      else-goes x us new i k room n l =
+          leaves-as g answers x us new at _ out (leaves-goes g answers w rs o at _ out (left n l) leaveElse x us new i else-adds k room) _ (turned n)

@@ -1,5 +1,5 @@
 -- What the code leaves where a walk goes on, where it has ended, and what follows.
-use Prim.Native.Nat.{ℕ, _≤_, _<_}
+use Prim.Native.Nat.{ℕ, _+_, _≤_, _<_}
 use native.Mathlib.Omega.{arith}
 use mathlib.Core.Path.{_≡_, refl, sym, ap, _∙_, subst}
 use mathlib.Core.List.{List, [], append-nil}
@@ -58,10 +58,21 @@ follow-here (waits s) ls = refl
 follow-here (outside s) ls = refl
 
 -- it goes on at a place
-pub paced-here : (g : List ℕ) (w : Walked) (place : ℕ) → w .place ≡ place → w .left .machine .steps ≤ place → place ≤ length g → Clean aGuide (drop place g)
-    → Paced g w
-paced-here g w place e s l c =
-    record { steps = omega arith; within = omega arith; clean = subst (λ (n : ℕ). Clean aGuide (drop n g)) (sym e) c }
+pub paced-here : (g : List ℕ) (a : ℕ) (w : Walked) (place : ℕ) → w .place ≡ place
+    → w .left .machine .steps + length (linesAt g place) ≤ length (linesAt g 0) → length (linesAt g place) ≤ length (linesAt g a)
+    → place ≤ length g → Clean aGuide (drop place g) → Paced g a w
+paced-here g a w place e s k l c =
+    let same = ap (λ (n : ℕ). length (linesAt g n)) e in
+    record {
+      steps = omega (arith, same);
+      lines = omega (arith, same);
+      within = omega arith;
+      clean = subst (λ (n : ℕ). Clean aGuide (drop n g)) (sym e) c;
+    }
+
+-- from a place on where there are no fewer lines
+pub paced-from : (g : List ℕ) (a b : ℕ) (w : Walked) → Paced g b w → length (linesAt g b) ≤ length (linesAt g a) → Paced g a w
+paced-from g a b w p l = record { steps = p .steps; lines = omega (arith, p .lines); within = p .within; clean = p .clean }
 
 module _ (g : List ℕ) (answers : List ℤ) where
   -- it goes on, with nothing written

@@ -1,5 +1,5 @@
 -- The walk over the lines of blocks, as the code goes: a block is a statement, and then the rest of the block.
-use Prim.Native.Nat.{ℕ, zero, suc, _+_}
+use Prim.Native.Nat.{ℕ, zero, suc}
 use mathlib.Core.List.{List, [], _∷_}
 use mathlib.Core.Bool.{Bool, true, false}
 use lib.ListN.{length, drop}
@@ -82,11 +82,11 @@ unfoldable pub blockWith : Bool → Walker → Walker
 blockWith true k s ls = next (statementWith k s ls) k
 blockWith false k s ls = here s ls
 
--- n is more than the lines left
+-- n is no less than the lines left
 unfoldable pub descend : ℕ → Walker
 descend zero s ls = here s ls
 descend (suc n) s ls = blockWith (beginsBy (firstRole ls)) (descend n) s ls
 
 -- the walk over a guide's lines
 unfoldable pub walkText : List ℕ → List ℤ → Ending
-walkText g answers = descend (length g + 2) (start answers) (linesAt g 0) .ending
+walkText g answers = descend (length (linesAt g 0)) (start answers) (linesAt g 0) .ending

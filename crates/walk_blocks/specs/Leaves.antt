@@ -1,5 +1,5 @@
 -- What the code answers for a block, beside what the walk over its lines says.
-use Prim.Native.Nat.{ℕ, _≤_}
+use Prim.Native.Nat.{ℕ, _+_, _≤_}
 use mathlib.Core.Path.{_≡_}
 use mathlib.Core.List.{List}
 use lib.ListN.{length, drop}
@@ -18,8 +18,13 @@ pub record Leaves (g : List ℕ) (answers : List ℤ) (w : Walked) (registers : 
   pub left : performed registers answers (w .left) new ≡ laid at (v .ending) old
   pub lines : w .left .outcome ≡ End → linesAt g (w .place) ≡ v .lines
 
--- no more steps than bytes passed, and no line behind them that is a fault
-pub record Paced (g : List ℕ) (w : Walked) : Type 0 where
-  pub steps : w .left .machine .steps ≤ w .place
+-- the same of each walk f n, where n is no less than the lines from the place a on
+abbrev pub LeavesFrom : List ℕ → ℕ → List ℤ → Walked → List ℤ → List ℕ → ℕ → (ℕ → Left) → List ℕ → Type 0
+LeavesFrom g a answers w registers new at f old = (n : ℕ) → length (linesAt g a) ≤ n → Leaves g answers w registers new at (f n) old
+
+-- no more steps than lines passed, no more lines left than from the place a on, and none of them a fault
+pub record Paced (g : List ℕ) (a : ℕ) (w : Walked) : Type 0 where
+  pub steps : w .left .machine .steps + length (linesAt g (w .place)) ≤ length (linesAt g 0)
+  pub lines : length (linesAt g (w .place)) ≤ length (linesAt g a)
   pub within : w .place ≤ length g
   pub clean : Clean aGuide (drop (w .place) g)

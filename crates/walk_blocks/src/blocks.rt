@@ -12,7 +12,7 @@ use transcript::Machine;
 ghost use mathlib.Core.Path.{_≡_};
 ghost use mathlib.Core.Bool.{true, false};
 ghost use mathlib.Core.List.{_∷_};
-ghost use Prim.Native.Nat.{_≤_, _<_};
+ghost use Prim.Native.Nat.{_+_, _≤_, _<_};
 ghost use lib.ListN.{length, drop};
 ghost use Rattle.lines.specs.declared.Form.the-variants.{Guide as aGuide};
 ghost use Rattle.lines.specs.Line.{lineOf};
@@ -20,35 +20,32 @@ ghost use Rattle.lines.specs.Clean.{Clean};
 ghost use Rattle.transcript.specs.Machine.{machineState};
 ghost use Rattle.guide.specs.Lines.{beginsBy, linesAt, lineText, Stands};
 ghost use Rattle.walk_blocks.specs.Descend.{walkIf, statementWith, descend};
-ghost use Rattle.walk_blocks.specs.Leaves.{Leaves, Paced};
+ghost use Rattle.walk_blocks.specs.Leaves.{LeavesFrom, Paced};
 
-// The block that begins at a, up to its else, its fi or the end; `lines` is more than its lines.
+// The block that begins at a, up to its else, its fi or the end.
 pub fn block(
     guide: &[u8],
     answers: &[i32],
     registers: &mut [i32; 32],
     out: &mut [u8],
-    lines: usize,
     a: usize,
     at: usize,
     begun: Machine,
 ) -> Walked
-    requires { ⌜ (a ≤ length (now guide)) × (begun .steps ≤ a) × Clean aGuide (drop a (now guide)) ⌝ }
-    ensures { λ w. ⌜ Leaves (now (guide .entry)) (now (answers .entry)) w (now (registers .exit)) (now (out .exit)) at (descend lines (machineState (now (registers .entry)) (now (answers .entry)) begun) (linesAt (now (guide .entry)) a)) (now (out .entry)) ⌝ }
-    ensures { λ w. ⌜ Paced (now (guide .entry)) w ⌝ }
+    requires { ⌜ (a ≤ length (now guide)) × (begun .steps + length (linesAt (now guide) a) ≤ length (linesAt (now guide) 0)) × Clean aGuide (drop a (now guide)) ⌝ }
+    ensures { λ w. ⌜ LeavesFrom (now (guide .entry)) a (now (answers .entry)) w (now (registers .exit)) (now (out .exit)) at (λ n. descend n (machineState (now (registers .entry)) (now (answers .entry)) begun) (linesAt (now (guide .entry)) a)) (now (out .entry)) ⌝ }
+    ensures { λ w. ⌜ Paced (now (guide .entry)) a w ⌝ }
 {
-    let mut left = lines;
     let mut place = a;
     let mut end = at;
     let mut m = begun;
-    while 0 < left {
+    loop {
         let h = guide::line_at(guide, place);
         let role = h.role;
         if guide::begins(role) {
-            let w = statement(guide, answers, registers, out, left - 1, h, end, m);
+            let w = statement(guide, answers, registers, out, h, end, m);
             let p = w.left;
             if goes_on(p) {
-                left -= 1;
                 place = w.place;
                 end = p.end;
                 m = p.machine;
@@ -59,7 +56,6 @@ pub fn block(
             return here(m, end, place);
         }
     }
-    here(m, end, place)
 }
 
 // The statement or the if whose line is h.
@@ -68,14 +64,13 @@ fn statement(
     answers: &[i32],
     registers: &mut [i32; 32],
     out: &mut [u8],
-    left: usize,
     h: Here,
     at: usize,
     m: Machine,
 ) -> Walked
-    requires { ⌜ Stands (now guide) h × (beginsBy (h .role) ≡ true) × (m .steps < h .next) × Clean aGuide (drop (h .next) (now guide)) ⌝ }
-    ensures { λ w. ⌜ Leaves (now (guide .entry)) (now (answers .entry)) w (now (registers .exit)) (now (out .exit)) at (statementWith (descend left) (machineState (now (registers .entry)) (now (answers .entry)) m) (lineOf aGuide (lineText (now (guide .entry)) h) ∷ linesAt (now (guide .entry)) (h .next))) (now (out .entry)) ⌝ }
-    ensures { λ w. ⌜ Paced (now (guide .entry)) w ⌝ }
+    requires { ⌜ Stands (now guide) h × (beginsBy (h .role) ≡ true) × (m .steps + length (linesAt (now guide) (h .next)) < length (linesAt (now guide) 0)) × Clean aGuide (drop (h .next) (now guide)) ⌝ }
+    ensures { λ w. ⌜ LeavesFrom (now (guide .entry)) (h .next) (now (answers .entry)) w (now (registers .exit)) (now (out .exit)) at (λ n. statementWith (descend n) (machineState (now (registers .entry)) (now (answers .entry)) m) (lineOf aGuide (lineText (now (guide .entry)) h) ∷ linesAt (now (guide .entry)) (h .next))) (now (out .entry)) ⌝ }
+    ensures { λ w. ⌜ Paced (now (guide .entry)) (h .next) w ⌝ }
 {
     let head = h.head;
     let start = h.start;
@@ -89,9 +84,9 @@ fn statement(
     };
     let n = machine::stepped(m);
     if machine::holds(registers, test) {
-        return true_block(guide, answers, registers, out, left, h.next, at, n);
+        return true_block(guide, answers, registers, out, h.next, at, n);
     }
-    no_block(guide, answers, registers, out, left, h.next, at, n)
+    no_block(guide, answers, registers, out, h.next, at, n)
 }
 
 // An if whose test holds, from its true block on.
@@ -100,16 +95,15 @@ fn true_block(
     answers: &[i32],
     registers: &mut [i32; 32],
     out: &mut [u8],
-    left: usize,
     a: usize,
     at: usize,
     m: Machine,
 ) -> Walked
-    requires { ⌜ (a ≤ length (now guide)) × (m .steps ≤ a) × Clean aGuide (drop a (now guide)) ⌝ }
-    ensures { λ w. ⌜ Leaves (now (guide .entry)) (now (answers .entry)) w (now (registers .exit)) (now (out .exit)) at (walkIf true (descend left) (machineState (now (registers .entry)) (now (answers .entry)) m) (linesAt (now (guide .entry)) a)) (now (out .entry)) ⌝ }
-    ensures { λ w. ⌜ Paced (now (guide .entry)) w ⌝ }
+    requires { ⌜ (a ≤ length (now guide)) × (m .steps + length (linesAt (now guide) a) ≤ length (linesAt (now guide) 0)) × Clean aGuide (drop a (now guide)) ⌝ }
+    ensures { λ w. ⌜ LeavesFrom (now (guide .entry)) a (now (answers .entry)) w (now (registers .exit)) (now (out .exit)) at (λ n. walkIf true (descend n) (machineState (now (registers .entry)) (now (answers .entry)) m) (linesAt (now (guide .entry)) a)) (now (out .entry)) ⌝ }
+    ensures { λ w. ⌜ Paced (now (guide .entry)) a w ⌝ }
 {
-    let w = block(guide, answers, registers, out, left, a, at, m);
+    let w = block(guide, answers, registers, out, a, at, m);
     let p = w.left;
     if goes_on(p) {
         let n = p.machine;
@@ -124,19 +118,18 @@ fn no_block(
     answers: &[i32],
     registers: &mut [i32; 32],
     out: &mut [u8],
-    left: usize,
     a: usize,
     at: usize,
     m: Machine,
 ) -> Walked
-    requires { ⌜ (a ≤ length (now guide)) × (m .steps ≤ a) × Clean aGuide (drop a (now guide)) ⌝ }
-    ensures { λ w. ⌜ Leaves (now (guide .entry)) (now (answers .entry)) w (now (registers .exit)) (now (out .exit)) at (walkIf false (descend left) (machineState (now (registers .entry)) (now (answers .entry)) m) (linesAt (now (guide .entry)) a)) (now (out .entry)) ⌝ }
-    ensures { λ w. ⌜ Paced (now (guide .entry)) w ⌝ }
+    requires { ⌜ (a ≤ length (now guide)) × (m .steps + length (linesAt (now guide) a) ≤ length (linesAt (now guide) 0)) × Clean aGuide (drop a (now guide)) ⌝ }
+    ensures { λ w. ⌜ LeavesFrom (now (guide .entry)) a (now (answers .entry)) w (now (registers .exit)) (now (out .exit)) at (λ n. walkIf false (descend n) (machineState (now (registers .entry)) (now (answers .entry)) m) (linesAt (now (guide .entry)) a)) (now (out .entry)) ⌝ }
+    ensures { λ w. ⌜ Paced (now (guide .entry)) a w ⌝ }
 {
     let h = guide::role_at(guide, guide::pass_over(guide, a));
     let role = h.role;
     if guide::is_else(role) {
-        let w = block(guide, answers, registers, out, left, h.next, at, m);
+        let w = block(guide, answers, registers, out, h.next, at, m);
         let p = w.left;
         if goes_on(p) {
             let n = p.machine;

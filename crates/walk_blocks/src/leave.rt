@@ -5,7 +5,7 @@ use transcript::Machine;
 use transcript::Performed;
 ghost use mathlib.Core.Path.{_≡_};
 ghost use mathlib.Core.List.{List};
-ghost use Prim.Native.Nat.{ℕ, _≤_};
+ghost use Prim.Native.Nat.{ℕ, _+_, _≤_};
 ghost use lib.ListN.{length, drop};
 ghost use lib.IntN.{ℤ};
 ghost use Rattle.transcript.specs.Machine.{machineState};
@@ -44,9 +44,9 @@ pub fn here(m: Machine, end: usize, place: usize) -> Walked
 
 // Behind a true block that ends at a: with an else line one step, and the else block is passed over.
 pub fn leave_true(guide: &[u8], a: usize, end: usize, m: Machine) -> Walked
-    requires { ⌜ (a ≤ length (now guide)) × (m .steps ≤ a) × Clean aGuide (drop a (now guide)) ⌝ }
+    requires { ⌜ (a ≤ length (now guide)) × (m .steps + length (linesAt (now guide) a) ≤ length (linesAt (now guide) 0)) × Clean aGuide (drop a (now guide)) ⌝ }
     ensures { λ r. ⌜ ((registers answers : List ℤ) (out : List ℕ) → Leaves (now (guide .entry)) answers r registers out end (descend.leaveTrue (machineState registers answers m) (linesAt (now (guide .entry)) a)) out) ⌝ }
-    ensures { λ r. ⌜ Paced (now (guide .entry)) r ⌝ }
+    ensures { λ r. ⌜ Paced (now (guide .entry)) a r ⌝ }
 {
     let h = guide::role_at(guide, a);
     let role = h.role;
@@ -60,9 +60,9 @@ pub fn leave_true(guide: &[u8], a: usize, end: usize, m: Machine) -> Walked
 
 // Behind an else block that ends at a.
 pub fn leave_else(guide: &[u8], a: usize, end: usize, m: Machine) -> Walked
-    requires { ⌜ (a ≤ length (now guide)) × (m .steps ≤ a) × Clean aGuide (drop a (now guide)) ⌝ }
+    requires { ⌜ (a ≤ length (now guide)) × (m .steps + length (linesAt (now guide) a) ≤ length (linesAt (now guide) 0)) × Clean aGuide (drop a (now guide)) ⌝ }
     ensures { λ r. ⌜ ((registers answers : List ℤ) (out : List ℕ) → Leaves (now (guide .entry)) answers r registers out end (descend.leaveElse (machineState registers answers m) (linesAt (now (guide .entry)) a)) out) ⌝ }
-    ensures { λ r. ⌜ Paced (now (guide .entry)) r ⌝ }
+    ensures { λ r. ⌜ Paced (now (guide .entry)) a r ⌝ }
 {
     let h = guide::role_at(guide, a);
     here(m, end, h.next)

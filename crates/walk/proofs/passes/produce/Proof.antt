@@ -1,19 +1,20 @@
 -- `produce` meets its contract: it is the walk from the start, over all lines.
+use mathlib.Core.Path.{ap}
 use native.Mathlib.Omega.{arith}
+use lib.ListN.{length}
 use Rattle.machine.proofs.Passes.{fresh-steps}
 use Rattle.walk.proofs.Whole.{text-laid}
 use borrow.Author.Needs.{needs}
 use Rattle.walk.proofs.passes.produce.Statement.{statement}
 use Rattle.walk.proofs.passes.produce.Tie as tie
 
-add-block : tie.Need-add-block
-add-block c = search needs
-
 fresh-requires : tie.Need-fresh-requires
 fresh-requires c κs = search needs
 
 block-requires : tie.Need-block-requires
-block-requires c κs = (search needs, (let z = fresh-steps _ (c .fresh .ensures) in omega arith), c .before .before .before .before .before .pre .2)
+block-requires c κs =
+    let p = c .before .before .before .before .before .pre in
+    (search needs, omega (arith, fresh-steps _ (c .fresh .ensures), ap length (p .0)), p .2)
 
 same-length : tie.Need-same-length
 same-length c = search needs
@@ -24,4 +25,4 @@ returns c =
     (_, text-laid _ _ _ _ _ _ _ _ _ (walked .block .ensures .0) (walked .before .before .before .before .before .before .pre .0) (walked .before .fresh .ensures _))
 
 pub produce-spec : {M : Type 1} → statement M
-produce-spec = tie.close (tie.spec add-block fresh-requires block-requires same-length returns)
+produce-spec = tie.close (tie.spec fresh-requires block-requires same-length returns)

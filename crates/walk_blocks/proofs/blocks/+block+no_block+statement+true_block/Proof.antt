@@ -1,5 +1,5 @@
 -- `block`, `statement`, `true_block` and `no_block` meet their contracts: each return, and each turn of the loop, is a law of
--- proofs/Cycle.antt or of proofs/LineStatements.antt. The measure is the number of lines left, three times.
+-- proofs/Cycle.antt or of proofs/LineStatements.antt. The measure is the number of unread lines, three times.
 use Prim.Native.Nat.{ℕ, _*_, _+_, _<_, _≤_}
 use borrow.Author.Needs.{needs}
 use mathlib.Core.Path.{_≡_, refl, sym, ap, _∙_}
@@ -9,11 +9,12 @@ use Rattle.lines.specs.declared.Form.the-variants.{Guide as aGuide}
 use Rattle.lines.specs.Clean.{Clean}
 use Rattle.transcript.specs.Machine.{machineState}
 use Rattle.guide.specs.Lines.{beginsBy, linesAt}
-use Rattle.guide.proofs.Reading.{begins-first, begins-further}
-use Rattle.walk_blocks.specs.Descend.{descend}
-use Rattle.walk_blocks.proofs.Leaving.{leaves-as, leaves-performed, paced-here}
+use Rattle.guide.proofs.Reading.{begins-first, begins-less}
+use Rattle.guide.proofs.Passing.{passed-no-more}
+use Rattle.guide.proofs.Counting.{few-lines}
+use Rattle.walk_blocks.proofs.Leaving.{leaves-as, leaves-performed, paced-here, paced-from}
 use Rattle.walk_blocks.proofs.LineStatements.{no-if, line-says, line-performs, if-test, if-walks}
-use Rattle.walk_blocks.proofs.Cycle.{Rest, block-none, block-ends, block-ended, block-goes}
+use Rattle.walk_blocks.proofs.Cycle.{Rest, block-ends, block-ended, block-goes}
 use Rattle.walk_blocks.proofs.Cycle.{true-ended, true-goes, no-else, else-ended, else-goes}
 use borrow.Fn.Kinds.{In}
 use borrow.Fn.PlainCycle.{Measures, is, falls, and}
@@ -45,16 +46,16 @@ use Rattle.walk_blocks.proofs.blocks.+block+no_block+statement+true_blo
 use Rattle.walk_blocks.proofs.blocks.+block+no_block+statement+true_block.Tie.{close}
 
 abbrev μ-block : Measures 4 block-kinds.ps ℕ
-μ-block κs a = 3 * a .1 .1 .1 .1 .0
+μ-block κs a = 3 * length (linesAt (a .0 .now) (a .1 .1 .1 .1 .0))
 
 abbrev μ-no-block : Measures 4 no-block-kinds.ps ℕ
-μ-no-block κs a = 3 * a .1 .1 .1 .1 .0 + 1
+μ-no-block κs a = 3 * length (linesAt (a .0 .now) (a .1 .1 .1 .1 .0)) + 1
 
 abbrev μ-statement : Measures 4 statement-kinds.ps ℕ
-μ-statement κs a = 3 * a .1 .1 .1 .1 .0 + 2
+μ-statement κs a = 3 * length (linesAt (a .0 .now) (a .1 .1 .1 .1 .0 .next)) + 2
 
 abbrev μ-true-block : Measures 4 true-block-kinds.ps ℕ
-μ-true-block κs a = 3 * a .1 .1 .1 .1 .0 + 1
+μ-true-block κs a = 3 * length (linesAt (a .0 .now) (a .1 .1 .1 .1 .0)) + 1
 
 abbrev block-at : ℕ → In 4 block-kinds.ps
 block-at t = and 4 block-kinds.ps (is 4 block-kinds.ps μ-block t) block.Pre
@@ -141,11 +142,16 @@ true-block-calls t = (
 )
 
 abbrev block-Inv-loop : block-lts.InvT-loop
-block-Inv-loop guide answers registers₀ out₀ lines a at left₀ place₀ end₀ m₀ registers out left place end m =
-    Rest guide answers left place (machineState registers answers m) end out at (descend lines (machineState registers₀ answers m₀) (linesAt guide a)) out₀ × (place ≤ length guide) × (m .steps ≤ place) × (left ≤ lines) × (length out ≡ length out₀) × Clean aGuide (drop place guide)
+block-Inv-loop guide answers registers₀ out₀ a at place₀ end₀ m₀ registers out place end m =
+    Rest guide answers place (machineState registers answers m) end out a (machineState registers₀ answers m₀) at out₀
+    × (place ≤ length guide)
+    × (m .steps + length (linesAt guide place) ≤ length (linesAt guide 0))
+    × (length (linesAt guide place) ≤ length (linesAt guide a))
+    × (length out ≡ length out₀)
+    × Clean aGuide (drop place guide)
 
 abbrev block-μ-loop : block-lts.MeasureT-loop
-block-μ-loop guide answers registers₀ out₀ lines a at left₀ place₀ end₀ m₀ registers out left place end m = left
+block-μ-loop guide answers registers₀ out₀ a at place₀ end₀ m₀ registers out place end m = length (linesAt guide place)
 
 block-loop-holds : (t : ℕ) → block-lts.Need-loop-holds (block-calls t) (block-at t) block.Post block-Inv-loop block-μ-loop
 block-loop-holds t c = ((λ w rs o f. f), search needs, search needs, search needs, refl, search needs)
@@ -155,66 +161,92 @@ block-statement-requires t c κs =
     let v = sym (c .before .before .before .begins .ensures) ∙ c .before .before .if1 .taken in
     let f = begins-first _ _ _ (c .before .before .before .before .line-at .ensures) v in
     let r = c .before .before .before .before .line-at .ensures .reads in
-    let k = begins-further _ _ _ _ r v in
+    let k = begins-less _ _ _ _ r v in
     (omega arith, (f .stands, v, omega arith, r .clean))
+
+block-loop-less : (t : ℕ) → block-lts.Need-loop-less (block-calls t) (block-at t) block.Post block-Inv-loop block-μ-loop
+block-loop-less t c =
+    let k = begins-less _ _ _ _ (c .before .before .before .before .before .before .before .before .before .before .before .line-at .ensures .reads) (sym (c .before .before .before .before .before .before .before .before .before .before .begins .ensures) ∙ c .before .before .before .before .before .before .before .before .before .if1 .taken) in
+    omega (arith, c .before .before .before .before .before .before .statement .ensures .1 .lines)
 
 block-loop-again : (t : ℕ) → block-lts.Need-loop-again (block-calls t) (block-at t) block.Post block-Inv-loop block-μ-loop
 block-loop-again t c =
+    let i = c .before .before .before .before .before .before .before .before .before .before .before .before .loop .inv in
+    let r = c .before .before .before .before .before .before .before .before .before .before .before .line-at .ensures in
     let v = sym (c .before .before .before .before .before .before .before .before .before .before .begins .ensures) ∙ c .before .before .before .before .before .before .before .before .before .if1 .taken in
+    let k = begins-less _ _ _ _ (r .reads) v in
     let p = c .before .before .before .before .before .before .statement .ensures .1 in
-    ((λ w rs o k. c .before .before .before .before .before .before .before .before .before .before .before .before .before .loop .inv .0 w rs o (block-goes _ _ _ _ (c .before .before .before .before .before .before .before .before .before .before .before .before .before .loop .left) (c .before .before .before .before .before .before .before .before .before .before .before .before .before .loop .place) _ _ (c .before .before .before .before .before .before .before .before .before .before .before .line-at .ensures) v (λ z. omega arith) _ _ _ (c .before .before .before .before .before .before .statement .ensures .0) _ _ _ (sym (c .before .before .goes-on .ensures) ∙ c .before .if2 .taken) k (omega (arith, c .before .before .before .before .before .before .before .before .before .before .before .before .before .before .before .before .good, c .before .before .before .before .before .before .before .before .before .before .before .before .before .loop .inv .4)))), p .within, p .steps, search needs, search needs, p .clean)
+    ((λ w rs o f. i .0 w rs o (block-goes _ _ _ _ (c .before .before .before .before .before .before .before .before .before .before .before .before .loop .place) _ _ r v _ _ _ (c .before .before .before .before .before .before .statement .ensures .0) _ _ _ (sym (c .before .before .goes-on .ensures) ∙ c .before .if2 .taken) (p .lines) f (omega (arith, c .before .before .before .before .before .before .before .before .before .before .before .before .before .before .before .good, i .4)))), p .within, p .steps, omega (arith, p .lines, i .3), search needs, p .clean)
 
 block-returns : (t : ℕ) → block-lts.Need-returns (block-calls t) (block-at t) block.Post block-Inv-loop block-μ-loop
 block-returns t c =
+    let i = c .before .before .before .before .before .before .before .before .before .before .before .loop .inv in
+    let r = c .before .before .before .before .before .before .before .before .before .before .line-at .ensures in
     let v = sym (c .before .before .before .before .before .before .before .before .before .begins .ensures) ∙ c .before .before .before .before .before .before .before .before .if1 .taken in
-    (c .before .before .before .before .before .before .before .before .before .before .before .before .loop .inv .0 _ _ _ (block-ended _ _ _ _ (c .before .before .before .before .before .before .before .before .before .before .before .before .loop .left) (c .before .before .before .before .before .before .before .before .before .before .before .before .loop .place) _ _ (c .before .before .before .before .before .before .before .before .before .before .line-at .ensures) v (λ z. omega arith) _ _ _ (c .before .before .before .before .before .statement .ensures .0) (sym (c .before .goes-on .ensures) ∙ c .if2 .left)), c .before .before .before .before .before .statement .ensures .1)
+    let k = begins-less _ _ _ _ (r .reads) v in
+    (i .0 _ _ _ (block-ended _ _ _ _ (c .before .before .before .before .before .before .before .before .before .before .before .loop .place) _ _ r v _ _ _ (c .before .before .before .before .before .statement .ensures .0) (sym (c .before .goes-on .ensures) ∙ c .if2 .left)), paced-from _ _ _ _ (c .before .before .before .before .before .statement .ensures .1) (omega (arith, i .3)))
 
 block-returns-2 : (t : ℕ) → block-lts.Need-returns-2 (block-calls t) (block-at t) block.Post block-Inv-loop block-μ-loop
-block-returns-2 t c = (c .before .before .before .before .before .loop .inv .0 _ _ _ (block-ends _ _ _ _ (c .before .before .before .before .before .loop .left) (c .before .before .before .before .before .loop .place) _ _ _ _ _ (c .before .before .before .line-at .ensures) (sym (c .before .before .begins .ensures) ∙ c .before .if1 .left) (c .here .ensures .0 _ _ _ _)), paced-here _ _ _ (c .here .ensures .1 .0) (omega arith) (omega arith) (c .before .before .before .before .before .loop .inv .5))
+block-returns-2 t c = (c .before .before .before .before .loop .inv .0 _ _ _ (block-ends _ _ _ _ (c .before .before .before .before .loop .place) _ _ _ _ _ (c .before .before .before .line-at .ensures) (sym (c .before .before .begins .ensures) ∙ c .before .if1 .left) (c .here .ensures .0 _ _ _ _)), paced-here _ _ _ _ (c .here .ensures .1 .0) (omega arith) (omega arith) (omega arith) (c .before .before .before .before .loop .inv .5))
 
-block-returns-3 : (t : ℕ) → block-lts.Need-returns-3 (block-calls t) (block-at t) block.Post block-Inv-loop block-μ-loop
-block-returns-3 t c = (c .before .before .loop .inv .0 _ _ _ (block-none _ _ _ _ (c .before .before .loop .left) (c .before .before .loop .place) _ _ _ _ (omega arith) (c .here2 .ensures .0 _ _ _ _)), paced-here _ _ _ (c .here2 .ensures .1 .0) (omega arith) (omega arith) (c .before .before .loop .inv .5))
+no-block-block-requires : (t : ℕ) → no-block-lts.Need-block-requires (no-block-calls t) (no-block-at t) no-block.Post
+no-block-block-requires t c κs =
+    let r = c .before .before .before .before .role-at .ensures in
+    let l = passed-no-more _ _ _ _ _ (c .before .before .before .before .before .pass-over .ensures .0) r in
+    (omega arith, (r .within, omega arith, r .clean))
 
 no-block-returns : (t : ℕ) → no-block-lts.Need-returns (no-block-calls t) (no-block-at t) no-block.Post
 no-block-returns t c =
     let v = sym (c .before .before .before .before .before .before .before .before .before .before .before .is-else .ensures) ∙ c .before .before .before .before .before .before .before .before .before .before .if1 .taken in
-    (else-goes _ _ _ _ (c .before .before .before .before .before .before .before .before .before .before .before .before .before .before .before .before .args .left) (c .before .before .before .before .before .before .before .before .before .before .before .before .before .before .before .before .args .a) _ _ _ _ (c .before .before .before .before .before .before .before .before .before .before .before .before .before .pass-over .ensures .0) (c .before .before .before .before .before .before .before .before .before .before .before .before .role-at .ensures) v _ _ _ (c .before .before .before .before .before .before .before .block .ensures .0) _ _ _ (sym (c .before .before .before .goes-on .ensures) ∙ c .before .before .if2 .taken) (c .leave-else .ensures .0 _ _ _) (omega (arith, c .before .before .before .before .before .before .before .before .before .before .before .before .before .before .before .before .good)), c .leave-else .ensures .1)
+    let e = c .before .before .before .before .before .before .before .before .before .before .before .before .before .pass-over .ensures .0 in
+    let r = c .before .before .before .before .before .before .before .before .before .before .before .before .role-at .ensures in
+    let l = passed-no-more _ _ _ _ _ e r in
+    (else-goes _ _ _ _ (c .before .before .before .before .before .before .before .before .before .before .before .before .before .before .before .before .args .a) _ _ _ _ e r v _ _ _ (c .before .before .before .before .before .before .before .block .ensures .0) _ _ _ (sym (c .before .before .before .goes-on .ensures) ∙ c .before .before .if2 .taken) (c .leave-else .ensures .0 _ _ _) (omega (arith, c .before .before .before .before .before .before .before .before .before .before .before .before .before .before .before .before .good)), paced-from _ _ _ _ (c .leave-else .ensures .1) (omega (arith, c .before .before .before .before .before .before .before .block .ensures .1 .lines)))
 
 no-block-returns-2 : (t : ℕ) → no-block-lts.Need-returns-2 (no-block-calls t) (no-block-at t) no-block.Post
 no-block-returns-2 t c =
     let v = sym (c .before .before .before .before .before .before .before .before .before .is-else .ensures) ∙ c .before .before .before .before .before .before .before .before .if1 .taken in
-    (else-ended _ _ _ _ (c .before .before .before .before .before .before .before .before .before .before .before .before .before .before .args .left) (c .before .before .before .before .before .before .before .before .before .before .before .before .before .before .args .a) _ _ _ _ (c .before .before .before .before .before .before .before .before .before .before .before .pass-over .ensures .0) (c .before .before .before .before .before .before .before .before .before .before .role-at .ensures) v _ _ _ (c .before .before .before .before .before .block .ensures .0) (sym (c .before .goes-on .ensures) ∙ c .if2 .left), c .before .before .before .before .before .block .ensures .1)
+    let e = c .before .before .before .before .before .before .before .before .before .before .before .pass-over .ensures .0 in
+    let r = c .before .before .before .before .before .before .before .before .before .before .role-at .ensures in
+    (else-ended _ _ _ _ (c .before .before .before .before .before .before .before .before .before .before .before .before .before .before .args .a) _ _ _ _ e r v _ _ _ (c .before .before .before .before .before .block .ensures .0) (sym (c .before .goes-on .ensures) ∙ c .if2 .left), paced-from _ _ _ _ (c .before .before .before .before .before .block .ensures .1) (passed-no-more _ _ _ _ _ e r))
 
 no-block-returns-3 : (t : ℕ) → no-block-lts.Need-returns-3 (no-block-calls t) (no-block-at t) no-block.Post
-no-block-returns-3 t c = (no-else _ _ _ _ (c .before .before .before .before .before .before .before .args .left) (c .before .before .before .before .before .before .before .args .a) _ _ _ _ (c .before .before .before .before .pass-over .ensures .0) (c .before .before .before .role-at .ensures) _ _ _ (sym (c .before .before .is-else .ensures) ∙ c .before .if1 .left) (c .here .ensures .0 _ _ _ _), paced-here _ _ _ (c .here .ensures .1 .0) (omega arith) (omega arith) (c .before .before .before .role-at .ensures .clean))
+no-block-returns-3 t c =
+    let e = c .before .before .before .before .pass-over .ensures .0 in
+    let r = c .before .before .before .role-at .ensures in
+    let l = passed-no-more _ _ _ _ _ e r in
+    (no-else _ _ _ _ (c .before .before .before .before .before .before .before .args .a) _ _ _ _ e r _ _ _ (sym (c .before .before .is-else .ensures) ∙ c .before .if1 .left) (c .here .ensures .0 _ _ _ _), paced-here _ _ _ _ (c .here .ensures .1 .0) (omega arith) (omega arith) (omega arith) (r .clean))
 
 statement-perform-requires : (t : ℕ) → statement-lts.Need-perform-requires (statement-calls t) (statement-at t) statement′.Post
 statement-perform-requires t c κs =
     let s = c .before .before .before .before .before .before .pre .1 .0 in
-    (line-says _ _ (s .head) (ap beginsBy (sym (s .role)) ∙ c .before .before .before .before .before .before .pre .1 .1) (no-if _ (c .before .before .before .match .keys2)), (aGuide, s .head), search needs)
+    (line-says _ _ (s .head) (ap beginsBy (sym (s .role)) ∙ c .before .before .before .before .before .before .pre .1 .1) (no-if _ (c .before .before .before .match .keys2)), (aGuide, s .head), omega (arith, few-lines (c .before .before .before .before .before .before .args .guide .now)))
 
 statement-returns : (t : ℕ) → statement-lts.Need-returns (statement-calls t) (statement-at t) statement′.Post
 statement-returns t c =
     let s = c .before .before .before .before .before .before .before .before .before .pre .1 .0 in
     let b = ap beginsBy (sym (s .role)) ∙ c .before .before .before .before .before .before .before .before .before .pre .1 .1 in
-    (leaves-as _ _ _ _ _ _ _ _ (leaves-performed _ _ _ _ _ _ _ _ _ (c .before .before .perform .ensures .0)) _ (line-performs _ _ (s .head) b (no-if _ (c .before .before .before .before .before .before .match .keys2)) _ _ _), record { steps = omega arith; within = s .within; clean = c .before .before .before .before .before .before .before .before .before .pre .1 .3 })
+    ((λ n l. leaves-as _ _ _ _ _ _ _ _ (leaves-performed _ _ _ _ _ _ _ _ _ (c .before .before .perform .ensures .0)) _ (line-performs _ _ (s .head) b (no-if _ (c .before .before .before .before .before .before .match .keys2)) _ _ _)), record { steps = omega arith; lines = omega arith; within = s .within; clean = c .before .before .before .before .before .before .before .before .before .pre .1 .3 })
+
+statement-stepped-requires : (t : ℕ) → statement-lts.Need-stepped-requires (statement-calls t) (statement-at t) statement′.Post
+statement-stepped-requires t c κs = omega (arith, few-lines (c .before .before .before .before .before .args .guide .now))
 
 statement-holds-requires : (t : ℕ) → statement-lts.Need-holds-requires (statement-calls t) (statement-at t) statement′.Post
 statement-holds-requires t c κs = if-test _ _ (c .before .before .before .before .before .before .before .pre .1 .0 .head) _ (c .before .before .before .head .given .1) .0
 
 statement-returns-2 : (t : ℕ) → statement-lts.Need-returns-2 (statement-calls t) (statement-at t) statement′.Post
 statement-returns-2 t c =
-    (leaves-as _ _ _ _ _ _ _ _ (rw (c .before .before .before .before .before .before .before .before .stepped .ensures .0 _ _) at (c .before .before .true-block .ensures .0)) _ (if-walks _ _ (c .before .before .before .before .before .before .before .before .before .before .before .before .before .before .pre .1 .0 .head) _ (c .before .before .before .before .before .before .before .before .before .before .head .given .1) _ _ _ _ (sym (c .before .before .before .before .before .if1 .taken) ∙ c .before .before .before .before .before .before .holds .ensures _ _)), c .before .before .true-block .ensures .1)
+    ((λ n l. leaves-as _ _ _ _ _ _ _ _ (rw (c .before .before .before .before .before .before .before .before .stepped .ensures .0 _ _) at (c .before .before .true-block .ensures .0 n l)) _ (if-walks _ _ (c .before .before .before .before .before .before .before .before .before .before .before .before .before .before .pre .1 .0 .head) _ (c .before .before .before .before .before .before .before .before .before .before .head .given .1) _ _ _ _ (sym (c .before .before .before .before .before .if1 .taken) ∙ c .before .before .before .before .before .before .holds .ensures _ _))), c .before .before .true-block .ensures .1)
 
 statement-returns-3 : (t : ℕ) → statement-lts.Need-returns-3 (statement-calls t) (statement-at t) statement′.Post
 statement-returns-3 t c =
-    (leaves-as _ _ _ _ _ _ _ _ (rw (c .before .before .before .before .before .before .before .before .stepped .ensures .0 _ _) at (c .before .before .no-block .ensures .0)) _ (if-walks _ _ (c .before .before .before .before .before .before .before .before .before .before .before .before .before .before .pre .1 .0 .head) _ (c .before .before .before .before .before .before .before .before .before .before .head .given .1) _ _ _ _ (sym (c .before .before .before .before .before .if1 .left) ∙ c .before .before .before .before .before .before .holds .ensures _ _)), c .before .before .no-block .ensures .1)
+    ((λ n l. leaves-as _ _ _ _ _ _ _ _ (rw (c .before .before .before .before .before .before .before .before .stepped .ensures .0 _ _) at (c .before .before .no-block .ensures .0 n l)) _ (if-walks _ _ (c .before .before .before .before .before .before .before .before .before .before .before .before .before .before .pre .1 .0 .head) _ (c .before .before .before .before .before .before .before .before .before .before .head .given .1) _ _ _ _ (sym (c .before .before .before .before .before .if1 .left) ∙ c .before .before .before .before .before .before .holds .ensures _ _))), c .before .before .no-block .ensures .1)
 
 true-block-returns : (t : ℕ) → true-block-lts.Need-returns (true-block-calls t) (true-block-at t) true-block.Post
-true-block-returns t c = (true-goes _ _ _ _ (c .before .before .before .before .before .before .before .before .before .before .before .before .args .left) _ _ _ _ _ (c .before .before .before .before .before .before .before .block .ensures .0) _ _ _ (sym (c .before .before .before .goes-on .ensures) ∙ c .before .before .if1 .taken) (c .leave-true .ensures .0 _ _ _) (omega (arith, c .before .before .before .before .before .before .before .before .before .before .before .before .good)), c .leave-true .ensures .1)
+true-block-returns t c = (true-goes _ _ _ _ (c .before .before .before .before .before .before .before .before .before .before .before .before .args .a) _ _ _ _ (c .before .before .before .before .before .before .before .block .ensures .0) _ _ _ (sym (c .before .before .before .goes-on .ensures) ∙ c .before .before .if1 .taken) (c .leave-true .ensures .0 _ _ _) (omega (arith, c .before .before .before .before .before .before .before .before .before .before .before .before .good)), paced-from _ _ _ _ (c .leave-true .ensures .1) (c .before .before .before .before .before .before .before .block .ensures .1 .lines))
 
 true-block-returns-2 : (t : ℕ) → true-block-lts.Need-returns-2 (true-block-calls t) (true-block-at t) true-block.Post
-true-block-returns-2 t c = (true-ended _ _ _ _ (c .before .before .before .before .before .before .before .before .before .before .args .left) _ _ _ _ _ (c .before .before .before .before .before .block .ensures .0) (sym (c .before .goes-on .ensures) ∙ c .if1 .left), c .before .before .before .before .before .block .ensures .1)
+true-block-returns-2 t c = (true-ended _ _ _ _ (c .before .before .before .before .before .before .before .before .before .before .args .a) _ _ _ _ (c .before .before .before .before .before .block .ensures .0) (sym (c .before .goes-on .ensures) ∙ c .if1 .left), c .before .before .before .before .before .block .ensures .1)
 
 pub +block+no-block+statement+true-block-spec : {M : Type 1} → statement M
 +block+no-block+statement+true-block-spec =
@@ -226,27 +258,22 @@ pub +block+no-block+statement+true-block-spec : {M : Type 1} → statement M
     (block-loop-holds t)
     (λ c κs. search needs)
     (λ c κs. search needs)
-    (λ c. search needs)
     (block-statement-requires t)
     (λ c κs. search needs)
-    (λ c. search needs)
-    (λ c. search needs)
+    (block-loop-less t)
     (block-loop-again t)
     (λ c. search needs)
     (block-returns t)
     (λ c κs. search needs)
     (λ c. search needs)
-    (block-returns-2 t)
-    (λ c κs. search needs)
-    (λ c. search needs)
-    (block-returns-3 t))
+    (block-returns-2 t))
     (λ t. no-block-lts.spec (no-block-calls t)
     (no-block-at t)
     no-block.Post
     (λ c κs. search needs)
     (λ c κs. search needs)
     (λ c κs. search needs)
-    (λ c κs. (search needs, (search needs, search needs, c .before .before .before .before .role-at .ensures .clean)))
+    (no-block-block-requires t)
     (λ c κs. search needs)
     (λ c κs. search needs)
     (λ c. search needs)
@@ -265,7 +292,7 @@ pub +block+no-block+statement+true-block-spec : {M : Type 1} → statement M
     (statement-perform-requires t)
     (λ c. search needs)
     (statement-returns t)
-    (λ c κs. search needs)
+    (statement-stepped-requires t)
     (statement-holds-requires t)
     (λ c κs. (search needs, (search needs, search needs, search needs)))
     (λ c. search needs)

@@ -1,5 +1,5 @@
 -- A block's lines are counted to the skips of the block's instructions, and with these skips they are translated to the instructions.
-use Prim.Native.Nat.{ℕ, zero, suc, _+_, _<_, _≤_}
+use Prim.Native.Nat.{ℕ, zero, suc, _+_, _≤_}
 use native.Mathlib.Omega.{arith}
 use mathlib.Core.Path.{_≡_, refl, sym, ap, _∙_}
 use mathlib.Core.List.{List, [], _∷_, _++_, map, map-append, append-assoc, append-nil}
@@ -49,7 +49,7 @@ module _ (f : Counter) (ts ls rest : List Line) (ks ms : List ℕ) (h : f ls ≡
 
 -- ---- the count of a block's lines
 
-count-block : (b : Block) (n : ℕ) (rest : List Line) → beginsBy (firstRole rest) ≡ false → length (blockLines b ++ rest) < n
+count-block : (b : Block) (n : ℕ) (rest : List Line) → beginsBy (firstRole rest) ≡ false → length (blockLines b ++ rest) ≤ n
     → blockLength n (blockLines b ++ rest) ≡ extent (skips b) rest
 unfolding blockLength blockWith statementLength blockLines translateBlock
 count-block empty n rest c l = count-ends n rest c
@@ -59,8 +59,8 @@ count-block (ifThen test t b) zero rest c l = absurd (omega arith)
 count-block (ifThen test t b) (suc n) rest c l =
     let ls = blockLines b ++ rest in
     let group = append-assoc (blockLines t) (fiLine ∷ blockLines b) rest in
-    let long : length (blockLines t ++ (fiLine ∷ ls)) < n = omega (arith, ap length group) in
-    let inner : length ls < n = omega (arith, length-append (blockLines t) (fiLine ∷ ls)) in
+    let long : length (blockLines t ++ (fiLine ∷ ls)) ≤ n = omega (arith, ap length group) in
+    let inner : length ls ≤ n = omega (arith, length-append (blockLines t) (fiLine ∷ ls)) in
     ap (λ (l : List Line). andThen (statementLength true (blockLength n) l) (blockLength n)) group
     ∙ if-counted (blockLength n) (blockLines t ++ (fiLine ∷ ls)) ls rest (skips t) (skips b) (count-block b n rest c inner)
     (count-block t n (fiLine ∷ ls) refl long)
@@ -71,9 +71,9 @@ count-block (ifElse test t o b) (suc n) rest c l =
     let os = blockLines o ++ (fiLine ∷ ls) in
     let ts = blockLines t ++ (elseLine ∷ os) in
     let group : (blockLines t ++ (elseLine ∷ (blockLines o ++ (fiLine ∷ blockLines b)))) ++ rest ≡ ts = simp append-assoc in
-    let long : length ts < n = omega (arith, ap length group) in
-    let second : length os < n = omega (arith, length-append (blockLines t) (elseLine ∷ os)) in
-    let inner : length ls < n = omega (arith, length-append (blockLines o) (fiLine ∷ ls)) in
+    let long : length ts ≤ n = omega (arith, ap length group) in
+    let second : length os ≤ n = omega (arith, length-append (blockLines t) (elseLine ∷ os)) in
+    let inner : length ls ≤ n = omega (arith, length-append (blockLines o) (fiLine ∷ ls)) in
     ap (λ (l : List Line). andThen (statementLength true (blockLength n) l) (blockLength n)) group
     ∙ else-counted (blockLength n) ts ls rest (skips t) (skips b) (count-block b n rest c inner) os (skips o)
     (count-block t n (elseLine ∷ os) refl long)
@@ -114,15 +114,15 @@ body-code ks (ifSkipLine test k ∷ ls) h = absurd (h .0 .ok)
 body-code ks (faulty c ∷ ls) h = body-code ks ls (h .1)
 
 -- with a table that has room for the skips
-pub lines-code : (n : ℕ) (ls : List Line) (b : Block) (table : List ℕ) → LinesOk aGuide ls → parse ls ≡ parsed b [] → length (bodyLines ls) < n
-    → length (translateBlock b) ≤ length table → linesCode (pour 0 (blockLength n (bodyLines ls) .skips) table) ls ≡ translateBlock b
+pub lines-code : (ls : List Line) (b : Block) (table : List ℕ) → LinesOk aGuide ls → parse ls ≡ parsed b [] → length (translateBlock b) ≤ length table
+    → linesCode (pour 0 (blockLength (length (bodyLines ls)) (bodyLines ls) .skips) table) ls ≡ translateBlock b
 unfolding linesCode
-lines-code n ls b table v e h k =
+lines-code ls b table v e k =
     let p : blockLines b ++ [] ≡ bodyLines ls = append-nil (blockLines b) ∙ parse-sound ls b e in
-    let counted = ap (λ (x : Extent). x .skips) (count-block b n [] refl (rw p h)) in
+    let counted = ap (λ (x : Extent). x .skips) (count-block b (length (blockLines b ++ [])) [] refl (omega arith)) in
     let room = pour-fits (skips b) table (omega (arith, length-map (translateBlock b) skipOf)) in
-    sym (body-code (pour 0 (blockLength n (bodyLines ls) .skips) table) ls v)
-    ∙ ap (λ (ls : List Line). linesCode (pour 0 (blockLength n ls .skips) table) ls) (sym p)
+    sym (body-code (pour 0 (blockLength (length (bodyLines ls)) (bodyLines ls) .skips) table) ls v)
+    ∙ ap (λ (ls : List Line). linesCode (pour 0 (blockLength (length ls) ls .skips) table) ls) (sym p)
     ∙ ap (λ (ks : List ℕ). linesCode ks (blockLines b ++ [])) (ap (λ (ks : List ℕ). pour 0 ks table) counted ∙ room)
     ∙ code-block b (drop (length (skips b)) table) []
     ∙ append-nil (translateBlock b)

@@ -6,14 +6,13 @@ use native.Mathlib.Numerals.{sub-one}
 use mathlib.Core.Path.{_≡_, refl, sym, ap, subst, _∙_}
 use mathlib.Core.List.{List, [], _∷_, _++_, append-assoc, append-nil}
 use mathlib.Core.Bool.{Bool, true, false}
-use lib.ListN.{length, drop, length-append}
+use lib.ListN.{length, drop, replicate, length-append}
 use Rattle.output.specs.Pour.{pour}
 use Rattle.output.proofs.Pour.{pour-length, pour-none, pour-then}
-use Rattle.lines.specs.declared.Form.the-variants.{Guide as aGuide}
-use Rattle.lines.specs.Clean.{Clean}
 use Rattle.lines.specs.Line.{Line}
 use Rattle.guide.specs.declared.Role.{Role}
 use Rattle.guide.specs.Lines.{firstRole, beginsBy, elseBy, linesAt, Reads}
+use Rattle.guide.proofs.Reading.{begins-less}
 use Rattle.translate.specs.declared.lengths.Length.{Length}
 use Rattle.translate.specs.Lengths.{
   Extent,
@@ -29,7 +28,9 @@ use Rattle.translate.specs.Lengths.{
   statementLength,
   blockWith,
   blockLength,
+  skipTable,
   Counts,
+  CountsFrom,
 }
 
 abbrev pub lengthOf : ℕ → ℕ → Length
@@ -40,10 +41,6 @@ abbrev none : List Line → Extent
 none ls = record { skips = []; lines = ls }
 
 module _ (n : ℕ) (ls : List Line) where
-  count-none : n ≡ 0 → blockLength n ls ≡ none ls
-  unfolding blockLength
-  count-none e = rw e
-
   pub count-ends : beginsBy (firstRole ls) ≡ false → blockLength n ls ≡ none ls
   unfolding blockLength blockWith
   count-ends v = go n
@@ -81,61 +78,76 @@ both : (at : ℕ) (ks js old : List ℕ) {k : ℕ} {mid new : List ℕ} → k �
     → new ≡ pour at (ks ++ js) old
 both at ks js old e f g = rw (e, f) at g ∙ pour-then at ks js old
 
--- ---- the block: x is the whole, of which k instructions are counted, and y is left
+-- ---- the block from a on: x is the whole, k instructions are counted, and those from the place `at` on are left
 
-pub record Left (first : ℕ) (old : List ℕ) (k : ℕ) (table : List ℕ) (y x : Extent) : Type 0 where
+pub record Left (g : List ℕ) (first : ℕ) (old : List ℕ) (k at : ℕ) (table : List ℕ) (x : Extent) : Type 0 where
+  pub left : ℕ
+  pub enough : length (linesAt g at) ≤ left
   pub before : List ℕ
   pub count : k ≡ length before
-  pub whole : behind before y ≡ x
+  pub whole : behind before (blockLength left (linesAt g at)) ≡ x
   pub stands : table ≡ pour first before old
 
-pub begun : (first : ℕ) (old : List ℕ) (x : Extent) → Left first old 0 old x x
-begun first old x = record { before = []; count = refl; whole = refl; stands = sym (pour-none first old) }
+abbrev pub LeftFrom : List ℕ → ℕ → ℕ → List ℕ → ℕ → ℕ → List ℕ → Type 0
+LeftFrom g a first old k at table = (n : ℕ) → length (linesAt g a) ≤ n → Left g first old k at table (blockLength n (linesAt g a))
 
-pub same-size : {first k : ℕ} {old table : List ℕ} {y x : Extent} → Left first old k table y x → length table ≡ length old
-same-size {first} {old = old} left = ap length (left .stands) ∙ pour-length first (left .before) old
+pub begun : (g : List ℕ) (a first : ℕ) (old : List ℕ) → LeftFrom g a first old 0 a old
+begun g a first old n l = record { left = n; enough = l; before = []; count = refl; whole = refl; stands = sym (pour-none first old) }
 
-pub table-size : {g : List ℕ} {first : ℕ} {old : List ℕ} {r : Length} {x : Extent} {new : List ℕ} → Counts g first old r x new → length new ≡ length old
-table-size {first = first} {old} {x = x} e = ap length (e .table) ∙ pour-length first (x .skips) old
+pub same-size : (g : List ℕ) (a first : ℕ) (old : List ℕ) (k at : ℕ) (table : List ℕ) → LeftFrom g a first old k at table → length table ≡ length old
+same-size g a first old k at table f =
+    let left = f (length (linesAt g a)) (omega arith) in
+    ap length (left .stands) ∙ pour-length first (left .before) old
 
-module _ (g : List ℕ) (first : ℕ) (old : List ℕ) where
-  module _ (n k a : ℕ) (table : List ℕ) (x : Extent) (left : Left first old k table (blockLength n (linesAt g a)) x) where
-    ended : blockLength n (linesAt g a) ≡ none (linesAt g a) → a ≤ length g → Clean aGuide (drop a g) → Counts g first old (lengthOf k a) x table
-    ended e w c =
-        let same = ap (behind (left .before)) (sym e) ∙ left .whole in
-        let skips : left .before ≡ x .skips = sym (append-nil (left .before)) ∙ ap (λ (y : Extent). y .skips) same in
-        record {
-          instructions = left .count ∙ ap length skips;
-          lines = ap (λ (y : Extent). y .lines) same;
-          within = w;
-          clean = c;
-          table = left .stands ∙ ap (λ (ks : List ℕ). pour first ks old) skips;
-        }
+pub table-size : (g : List ℕ) (a first : ℕ) (old : List ℕ) (r : Length) (f : ℕ → Extent) (new : List ℕ) → CountsFrom g a first old r f new
+    → length new ≡ length old
+table-size g a first old r f new e =
+    ap length (e (length (linesAt g a)) (omega arith) .table) ∙ pour-length first (f (length (linesAt g a)) .skips) old
 
-    pub block-none : n ≤ 0 → a ≤ length g → Clean aGuide (drop a g) → Counts g first old (lengthOf k a) x table
-    block-none h = let e : n ≡ 0 = omega arith in ended (count-none n (linesAt g a) e)
+-- the block from the guide's first line on leaves the table of skips
+pub whole-table : (g : List ℕ) (r : Length) (new : List ℕ) → CountsFrom g 0 0 (replicate 512 0) r (λ n. blockLength n (linesAt g 0)) new
+    → new ≡ skipTable g
+unfolding skipTable
+whole-table g r new e = e (length (linesAt g 0)) (omega arith) .table
 
-    pub block-ends : (role : Role) (m : ℕ) → Reads g a role m → beginsBy role ≡ false → a ≤ length g → Clean aGuide (drop a g) → Counts g first old (lengthOf k a) x table
-    block-ends role m r v = ended (count-ends n (linesAt g a) (ap beginsBy (sym (r .role)) ∙ v))
+module _ (g : List ℕ) (a first : ℕ) (old : List ℕ) (k at : ℕ) (table : List ℕ) (f : LeftFrom g a first old k at table) where
+  pub block-ends : (role : Role) (m : ℕ) → Reads g at role m → beginsBy role ≡ false
+      → CountsFrom g a first old (lengthOf k at) (λ n. blockLength n (linesAt g a)) table
+  block-ends role m r v n l =
+      let left = f n l in
+      let x = blockLength n (linesAt g a) in
+      let e = count-ends (left .left) (linesAt g at) (ap beginsBy (sym (r .role)) ∙ v) in
+      let same = ap (behind (left .before)) (sym e) ∙ left .whole in
+      let skips : left .before ≡ x .skips = sym (append-nil (left .before)) ∙ ap (λ (y : Extent). y .skips) same in
+      record {
+        instructions = left .count ∙ ap length skips;
+        lines = ap (λ (y : Extent). y .lines) same;
+        table = left .stands ∙ ap (λ (ks : List ℕ). pour first ks old) skips;
+      }
 
-    pub block-more : (role : Role) (m : ℕ) (s : Length) (new : List ℕ) → 0 < n → Reads g a role m → beginsBy role ≡ true
-        → Counts g (first + k) table s (statementLength (ifBy role) (blockLength (n - 1)) (linesAt g m)) new
-        → Left first old (k + s .instructions) new (blockLength (n - 1) (linesAt g (s .end))) x
-    block-more role m s new l r v e =
-        let f = blockLength (n - 1) in
-        let y = statementLength (ifBy role) f (linesAt g m) in
-        let rest = f (y .lines) in
-        record {
-          before = left .before ++ y .skips;
-          count = omega (arith, left .count, e .instructions, length-append (left .before) (y .skips));
-          whole =
-              (λ i. behind (left .before ++ y .skips) (f (e .lines i)))
-              ∙ (λ i. record { skips = append-assoc (left .before) (y .skips) (rest .skips) i; lines = rest .lines })
-              ∙ (λ i. behind (left .before) (andThen (statementLength (ifBy (r .role i)) f (r .rest i)) f))
-              ∙ ap (behind (left .before)) (sym (count-more n (linesAt g a) l (ap beginsBy (sym (r .role)) ∙ v)))
-              ∙ left .whole;
-          stands = both first (left .before) (y .skips) old (left .count) (left .stands) (e .table);
-        }
+  pub block-more : (role : Role) (m : ℕ) (s : Length) (new : List ℕ) → Reads g at role m → beginsBy role ≡ true
+      → CountsFrom g m (first + k) table s (λ n. statementLength (ifBy role) (blockLength n) (linesAt g m)) new
+      → length (linesAt g (s .end)) ≤ length (linesAt g m) → LeftFrom g a first old (k + s .instructions) (s .end) new
+  block-more role m s new r v c h n l =
+      let left = f n l in
+      let less = begins-less g at role m r v in
+      let e = c (left .left - 1) (omega (arith, left .enough)) in
+      let f = blockLength (left .left - 1) in
+      let y = statementLength (ifBy role) f (linesAt g m) in
+      let rest = f (y .lines) in
+      record {
+        left = left .left - 1;
+        enough = omega (arith, left .enough);
+        before = left .before ++ y .skips;
+        count = omega (arith, left .count, e .instructions, length-append (left .before) (y .skips));
+        whole =
+            (λ i. behind (left .before ++ y .skips) (f (e .lines i)))
+            ∙ (λ i. record { skips = append-assoc (left .before) (y .skips) (rest .skips) i; lines = rest .lines })
+            ∙ (λ i. behind (left .before) (andThen (statementLength (ifBy (r .role i)) f (r .rest i)) f))
+            ∙ ap (behind (left .before)) (sym (count-more (left .left) (linesAt g at) (omega (arith, left .enough)) (ap beginsBy (sym (r .role)) ∙ v)))
+            ∙ left .whole;
+        stands = both first (left .before) (y .skips) old (left .count) (left .stands) (e .table);
+      }
 
 -- ---- the skip of an if: t is its true block, and last the line where that ends
 
@@ -154,10 +166,10 @@ module _ (g : List ℕ) (place : ℕ) (old mid : List ℕ) (t : Length) (x : Ext
 -- ---- the statement whose line has the role, and the lines behind it
 
 module _ (g : List ℕ) (first : ℕ) (old : List ℕ) (role : Role) (f : Counter) (a : ℕ) where
-  pub plain-length : (new : List ℕ) → ifBy role ≡ false → a ≤ length g → Clean aGuide (drop a g) → new ≡ pour first (0 ∷ []) old
+  pub plain-length : (new : List ℕ) → ifBy role ≡ false → new ≡ pour first (0 ∷ []) old
       → Counts g first old (lengthOf 1 a) (statementLength (ifBy role) f (linesAt g a)) new
   unfolding statementLength
-  plain-length new v w c s = rw v (record { instructions = refl; lines = refl; within = w; clean = c; table = s })
+  plain-length new v s = rw v (record { instructions = refl; lines = refl; table = s })
 
   module _ (v : ifBy role ≡ true) (t : Length) (mid : List ℕ) (e : Counts g (first + 1) old t (f (linesAt g a)) mid) (last : Role) (m : ℕ) (r : Reads g (t .end) last m) where
     if-is : (w : Bool) → elseBy last ≡ w → ifWith w f (f (linesAt g a)) ≡ statementLength (ifBy role) f (linesAt g a)
@@ -171,8 +183,6 @@ module _ (g : List ℕ) (first : ℕ) (old : List ℕ) (role : Role) (f : Counte
         subst (λ (x : Extent). Counts g first old (lengthOf (t .instructions + 1) m) x new) (if-is false h) (record {
           instructions = omega (arith, e .instructions);
           lines = lines-behind g (first + 1) old mid t (f (linesAt g a)) e last m r;
-          within = r .within;
-          clean = r .clean;
           table = stored first (f (linesAt g a) .skips) old refl (e .table) s (omega (arith, skip));
         })
 
@@ -191,7 +201,5 @@ module _ (g : List ℕ) (first : ℕ) (old : List ℕ) (role : Role) (f : Counte
         subst (λ (x : Extent). Counts g first old (lengthOf (t .instructions + o .instructions + 2) z) x new) (if-is true h) (record {
           instructions = omega (arith, e .instructions, other .instructions, length-append (x .skips) (gotoOver y));
           lines = lines-behind g place mid below o _ other fi z q;
-          within = q .within;
-          clean = q .clean;
           table = stored first (x .skips ++ gotoOver y) old refl (both (first + 1) (x .skips) (gotoOver y) old (e .instructions) (e .table) goto) s skip;
         })

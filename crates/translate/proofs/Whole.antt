@@ -1,5 +1,5 @@
 -- The call: a refusal of the book or of the guide, and the plate of an accepted guide.
-use Prim.Native.Nat.{ℕ, suc, _+_}
+use Prim.Native.Nat.{ℕ, suc}
 use native.Mathlib.Omega.{arith}
 use mathlib.Core.Path.{_≡_, sym, ap, _∙_}
 use mathlib.Core.List.{List}
@@ -30,7 +30,6 @@ use Rattle.guide.specs.Block.{blockOf}
 use Rattle.guide.specs.Guide.{guideOf}
 use Rattle.guide.specs.Lines.{linesAt}
 use Rattle.guide.proofs.Accepted.{accepted-guide}
-use Rattle.guide.proofs.Counting.{few-lines}
 use Rattle.translate.specs.Translation.{translateBlock, translateGuide}
 use Rattle.translate.specs.Call.{translation, translateCall}
 use Rattle.translate.specs.Lengths.{skipTable}
@@ -69,7 +68,7 @@ module _ (g book : List ℕ) where
         let zeros : List ℕ = replicate 512 0 in
         let size : length zeros ≡ 512 = length-replicate {A = ℕ} 512 0 in
         let valid = lines-ok aGuide (split LF g) in
-        let code = lines-code (length g + 2) (linesOf aGuide g) (blockOf (linesOf aGuide g)) zeros valid matched (omega (arith, few-lines g)) (omega arith) in
+        let code = lines-code (linesOf aGuide g) (blockOf (linesOf aGuide g)) zeros valid matched (omega arith) in
         λ i. record { own = ownTexts own g; instructions = sym code i }
 
     -- no skip goes past

@@ -72,22 +72,30 @@ unfoldable pub blockWith : Bool → Counter → Counter
 blockWith true f ls = andThen (statementLength (ifBy (firstRole ls)) f (drop 1 ls)) f
 blockWith false f ls = record { skips = []; lines = ls }
 
--- n is more than the lines
+-- n is no less than the lines
 unfoldable pub blockLength : ℕ → Counter
 blockLength zero ls = record { skips = []; lines = ls }
 blockLength (suc n) ls = blockWith (beginsBy (firstRole ls)) (blockLength n) ls
 
 -- the table of skips: 512 numbers, and from the first on those of the guide's instructions
 unfoldable pub skipTable : List ℕ → List ℕ
-skipTable g = pour 0 (blockLength (length g + 2) (linesAt g 0) .skips) (replicate mostInstructions 0)
+skipTable g = pour 0 (blockLength (length (linesAt g 0)) (linesAt g 0) .skips) (replicate mostInstructions 0)
 
 -- ---- what the code answers, and what it leaves in the table of skips
 
 -- r is what x is, the lines by their place in the guide's text; the table had the numbers `old`, and in `new` the skips of x stand from the
--- entry `first` on. No line from its end on is a fault
+-- entry `first` on
 pub record Counts (g : List ℕ) (first : ℕ) (old : List ℕ) (r : Length) (x : Extent) (new : List ℕ) : Type 0 where
   pub instructions : r .instructions ≡ length (x .skips)
   pub lines : linesAt g (r .end) ≡ x .lines
+  pub table : new ≡ pour first (x .skips) old
+
+-- the same of each f n, where n is no less than the lines from the place a on
+abbrev pub CountsFrom : List ℕ → ℕ → ℕ → List ℕ → Length → (ℕ → Extent) → List ℕ → Type 0
+CountsFrom g a first old r f new = (n : ℕ) → length (linesAt g a) ≤ n → Counts g first old r (f n) new
+
+-- of n lines, no more instructions than lines passed, and none of those left a fault
+pub record Passed (g : List ℕ) (n : ℕ) (r : Length) : Type 0 where
+  pub few : r .instructions + length (linesAt g (r .end)) ≤ n
   pub within : r .end ≤ length g
   pub clean : Clean aGuide (drop (r .end) g)
-  pub table : new ≡ pour first (x .skips) old

@@ -4,11 +4,10 @@ use guide::Role;
 ghost use mathlib.Core.Path.{_≡_};
 ghost use Prim.Native.Nat.{_+_, _≤_, _<_};
 ghost use lib.ListN.{length, drop};
-ghost use Rattle.causes.specs.Limits.{mostGuideBytes};
 ghost use Rattle.lines.specs.declared.Form.the-variants.{Guide as aGuide};
 ghost use Rattle.lines.specs.Clean.{Clean};
 ghost use Rattle.guide.specs.Lines.{linesAt};
-ghost use Rattle.translate.specs.Lengths.{ifBy, statementLength, blockLength, Counts};
+ghost use Rattle.translate.specs.Lengths.{ifBy, statementLength, blockLength, CountsFrom, Passed};
 
 // A block or a statement: its instructions, and the place where it ends, which for a block is that of its else, its fi or the end.
 pub struct Length {
@@ -28,21 +27,19 @@ fn is_if(role: Role) -> bool
     }
 }
 
-// The block that begins at a; `lines` is more than its lines. The skips of its instructions are stored from the number `first` on.
-pub fn block_length(guide: &[u8], lines: usize, a: usize, skips: &mut [u16], first: usize) -> Length
-    requires { ⌜ (first ≤ a) × (a ≤ length (now guide)) × (length (now guide) ≤ mostGuideBytes) × Clean aGuide (drop a (now guide)) ⌝ }
-    ensures { λ r. ⌜ Counts (now (guide .entry)) first (now (skips .entry)) r (blockLength lines (linesAt (now (guide .entry)) a)) (now (skips .exit)) ⌝ }
-    ensures { λ r. ⌜ a + r .instructions ≤ r .end ⌝ }
+// The block that begins at a. The skips of its instructions are stored from the number `first` on.
+pub fn block_length(guide: &[u8], a: usize, skips: &mut [u16], first: usize) -> Length
+    requires { ⌜ (first + length (linesAt (now guide) a) < 65536) × (a ≤ length (now guide)) × Clean aGuide (drop a (now guide)) ⌝ }
+    ensures { λ r. ⌜ CountsFrom (now (guide .entry)) a first (now (skips .entry)) r (λ n. blockLength n (linesAt (now (guide .entry)) a)) (now (skips .exit)) ⌝ }
+    ensures { λ r. ⌜ Passed (now (guide .entry)) (length (linesAt (now (guide .entry)) a)) r ⌝ }
 {
-    let mut left = lines;
     let mut instructions = 0;
     let mut at = a;
-    while 0 < left {
-        left -= 1;
+    loop {
         let h = guide::role_at(guide, at);
         let role = h.role;
         if guide::begins(role) {
-            let s = statement_length(guide, left, role, h.next, skips, first + instructions);
+            let s = statement_length(guide, role, h.next, skips, first + instructions);
             instructions += s.instructions;
             at = s.end;
         } else {
@@ -52,33 +49,28 @@ pub fn block_length(guide: &[u8], lines: usize, a: usize, skips: &mut [u16], fir
             };
         }
     }
-    Length {
-        instructions,
-        end: at,
-    }
 }
 
 // The statement or the if whose line has this role, the next line being at `next`: an if goes up to the place behind its fi. Its first
 // instruction has the number `first`.
 fn statement_length(
     guide: &[u8],
-    left: usize,
     role: Role,
     next: usize,
     skips: &mut [u16],
     first: usize,
 ) -> Length
-    requires { ⌜ (first < next) × (next ≤ length (now guide)) × (length (now guide) ≤ mostGuideBytes) × Clean aGuide (drop next (now guide)) ⌝ }
-    ensures { λ r. ⌜ Counts (now (guide .entry)) first (now (skips .entry)) r (statementLength (ifBy role) (blockLength left) (linesAt (now (guide .entry)) next)) (now (skips .exit)) ⌝ }
-    ensures { λ r. ⌜ next + r .instructions ≤ r .end + 1 ⌝ }
+    requires { ⌜ (first + 1 + length (linesAt (now guide) next) < 65536) × (next ≤ length (now guide)) × Clean aGuide (drop next (now guide)) ⌝ }
+    ensures { λ r. ⌜ CountsFrom (now (guide .entry)) next first (now (skips .entry)) r (λ n. statementLength (ifBy role) (blockLength n) (linesAt (now (guide .entry)) next)) (now (skips .exit)) ⌝ }
+    ensures { λ r. ⌜ (0 < r .instructions) × Passed (now (guide .entry)) (1 + length (linesAt (now (guide .entry)) next)) r ⌝ }
 {
     if is_if(role) {
-        let t = block_length(guide, left, next, skips, first + 1);
+        let t = block_length(guide, next, skips, first + 1);
         let last = guide::role_at(guide, t.end);
         let other = last.role;
         if guide::is_else(other) {
             let goto = first + 1 + t.instructions;
-            let e = block_length(guide, left, last.next, skips, goto + 1);
+            let e = block_length(guide, last.next, skips, goto + 1);
             let fi = guide::role_at(guide, e.end);
             store(skips, goto, e.instructions);
             store(skips, first, t.instructions + 1);

@@ -28,7 +28,7 @@ pub fn write(
     ensures { λ r. ⌜ (writtenAnswer r, now (plate .exit)) ≡ lentProgram (bookTexts (now (book .entry))) (programIn aGuide (skipTable (now (guide .entry))) (now (guide .entry)) own) (now (plate .entry)) ⌝ }
 {
     let mut skips = [0u16; INSTRUCTIONS];
-    block_length(guide, guide.len() + 2, 0, &mut skips, 0);
+    block_length(guide, 0, &mut skips, 0);
     assemble::write(
         Form::Guide,
         guide,

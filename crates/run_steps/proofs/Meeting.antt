@@ -5,17 +5,11 @@ use native.Mathlib.Omega.{arith}
 use mathlib.Core.Path.{_≡_, refl, sym, ap, _∙_}
 use mathlib.Core.List.{List, _∷_}
 use mathlib.Core.Bool.{true, false}
-use Rattle.phrases.specs.Phrases.{Phrases}
 use Rattle.transcript.specs.declared.Test.{Test}
 use Rattle.transcript.specs.State.{State, step}
 use Rattle.transcript.specs.Perform.{Ending, goesOn, andThen, holds}
 use Rattle.transcript.specs.Machine.{Laid, laid}
 use Rattle.plate.specs.Program.{Instruction, statement, goto, ifSkip}
-use Rattle.plate.specs.Reading.{Place, Read, got}
-use Rattle.fields.specs.Places.{endWith, Known}
-use Rattle.plate_texts.proofs.Known.{known-same}
-use Rattle.instructions.specs.declared.Head.{Head}
-use Rattle.instructions.specs.Heads.{headed, instructionOf}
 use Rattle.running.specs.Run.{run}
 use Rattle.run_steps.specs.Meets.{leftBy, overBy}
 
@@ -83,23 +77,3 @@ module _ (test : Test) (skip : ℕ) (s : State) where
   pub over-not-held : false ≡ holds test s → skip ≡ overBy 0 (ifSkip test skip) s
   unfolding overBy
   over-not-held v = rw (sym v)
-
--- ---- by its head
-
--- m is the instruction that the head h begins, which the code finds to be k
-module _ (plate : List ℕ) (c : Phrases) {h k : Head} {m : Read Instruction} (e : headed plate c h ≡ m) (f : h ≡ k) where
-  by-head : headed plate c k ≡ m
-  by-head = ap (headed plate c) (sym f) ∙ e
-
-  pub head-known : Known m → Known (headed plate c k)
-  head-known w = known-same by-head w
-
-  pub head-left : (s : State) (at : ℕ) (out : List ℕ) (p : Laid) → p ≡ laid at (leftBy 0 (instructionOf (headed plate c k)) s) out
-      → p ≡ laid at (leftBy 0 (instructionOf m) s) out
-  head-left s at out p g = g ∙ ap (λ m. laid at (leftBy 0 (instructionOf m) s) out) by-head
-
-  pub head-over : (s : State) {n : ℕ} → n ≡ overBy 0 (instructionOf (headed plate c k)) s → n ≡ overBy 0 (instructionOf m) s
-  head-over s g = g ∙ ap (λ m. overBy 0 (instructionOf m) s) by-head
-
-  pub head-end : {q : Place} → got 0 q ≡ endWith 0 (headed plate c k) → got 0 q ≡ endWith 0 m
-  head-end g = g ∙ ap (endWith 0) by-head

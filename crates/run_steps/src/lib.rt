@@ -4,18 +4,20 @@
 // and the bit behind it. The plate has been read and accepted, so the instruction is there, and one step more must still fit a 64-bit number.
 mod perform;
 
-use crate::perform::ask;
+use crate::perform::answer;
 use crate::perform::offer;
+use crate::perform::put_line;
 use crate::perform::rule;
 use crate::perform::show;
 use causes::Outcome;
 use instructions::Head;
+use instructions::IfRead;
 use instructions::accepted_end;
 use instructions::accepted_head;
 use instructions::accepted_if;
 use transcript::Machine;
 use transcript::Performed;
-use transcript::Test;
+use transcript_lines::ASKED;
 ghost use mathlib.Core.Path.{_≡_};
 ghost use mathlib.Core.List.{List};
 ghost use Prim.Native.Nat.{ℕ, _+_, _≤_, _<_};
@@ -29,7 +31,7 @@ ghost use Rattle.plate.specs.Reading.{got};
 ghost use Rattle.plate.specs.Plate.{instruction};
 ghost use Rattle.fields.specs.Places.{placeAt, endWith, Known};
 ghost use Rattle.plate_texts.specs.TextsAt.{Lent};
-ghost use Rattle.instructions.specs.Heads.{instructionOf};
+ghost use Rattle.instructions.specs.Heads.{headed, HeadFits, instructionOf};
 ghost use Rattle.run_steps.specs.Meets.{leftBy, overBy};
 
 // What an instruction leaves: the machine, the outcome and the transcript's end, how many instructions behind it are passed over, and the
@@ -54,24 +56,23 @@ fn go_on(m: Machine, end: usize, over: usize, next: usize) -> Met
 }
 
 // An if: where its test holds, the run goes on behind it.
-fn decide(registers: &[i32; 32], test: Test, skip: usize, next: usize, m: Machine, at: usize) -> Met
-    requires { ⌜ (test .register < 32) × (m .steps < 18446744073709551615) ⌝ }
+fn decide(registers: &[i32; 32], read: IfRead, m: Machine, at: usize) -> Met
+    requires { ⌜ (read .test .register < 32) × (m .steps < 18446744073709551615) ⌝ }
     ensures { λ r. ⌜ ((answers : List ℤ) (out : List ℕ) → performed (now (registers .entry)) answers (r .left) out ≡ laid at (goesOn (step (machineState (now (registers .entry)) answers m))) out) ⌝ }
-    ensures { λ r. ⌜ ((answers : List ℤ) → r .over ≡ overBy 0 (ifSkip test skip) (machineState (now (registers .entry)) answers m)) ⌝ }
-    ensures { λ r. ⌜ (r .next ≡ next) × (r .left .machine .steps ≡ m .steps + 1) ⌝ }
+    ensures { λ r. ⌜ ((answers : List ℤ) → r .over ≡ overBy 0 (ifSkip (read .test) (read .skip)) (machineState (now (registers .entry)) answers m)) ⌝ }
+    ensures { λ r. ⌜ (r .next ≡ read .next) × (r .left .machine .steps ≡ m .steps + 1) ⌝ }
 {
     let n = machine::stepped(m);
-    if machine::holds(registers, test) {
-        return go_on(n, at, 0, next);
+    if machine::holds(registers, read.test) {
+        return go_on(n, at, 0, read.next);
     }
-    go_on(n, at, skip, next)
+    go_on(n, at, read.skip, read.next)
 }
 
-// An instruction that is not passed over.
-fn perform_next<'a>(
+// The instruction that a head begins, where it is not passed over.
+fn perform_head<'a>(
     plate: &[u8],
-    bit: usize,
-    behind: usize,
+    head: Head,
     index: &'a [u32],
     book: &'a [u8],
     own: &'a [u8],
@@ -82,26 +83,16 @@ fn perform_next<'a>(
     at: usize,
     m: Machine,
 ) -> Met
-    requires { ⌜ Lent (now plate) (now index) (now book) (now own) count × Known (instruction (phrasesIn (now book) (now own) count) behind (placeAt (now plate) bit)) × (m .steps < 18446744073709551615) ⌝ }
-    ensures { λ r. ⌜ performed (now (registers .exit)) (now (answers .entry)) (r .left) (now (out .exit)) ≡ laid at (leftBy 0 (instructionOf (instruction (phrasesIn (now (book .entry)) (now (own .entry)) count) behind (placeAt (now (plate .entry)) bit))) (machineState (now (registers .entry)) (now (answers .entry)) m)) (now (out .entry)) ⌝ }
-    ensures { λ r. ⌜ (r .over ≡ overBy 0 (instructionOf (instruction (phrasesIn (now (book .entry)) (now (own .entry)) count) behind (placeAt (now (plate .entry)) bit))) (machineState (now (registers .entry)) (now (answers .entry)) m)) × (r .left .machine .steps ≡ m .steps + 1) ⌝ }
-    ensures { λ r. ⌜ got 0 (placeAt (now (plate .entry)) (r .next)) ≡ endWith 0 (instruction (phrasesIn (now (book .entry)) (now (own .entry)) count) behind (placeAt (now (plate .entry)) bit)) ⌝ }
+    requires { ⌜ Lent (now plate) (now index) (now book) (now own) count × HeadFits (now plate) head × Known (headed (now plate) (phrasesIn (now book) (now own) count) head) × (m .steps < 18446744073709551615) ⌝ }
+    ensures { λ r. ⌜ performed (now (registers .exit)) (now (answers .entry)) (r .left) (now (out .exit)) ≡ laid at (leftBy 0 (instructionOf (headed (now (plate .entry)) (phrasesIn (now (book .entry)) (now (own .entry)) count) head)) (machineState (now (registers .entry)) (now (answers .entry)) m)) (now (out .entry)) ⌝ }
+    ensures { λ r. ⌜ (r .over ≡ overBy 0 (instructionOf (headed (now (plate .entry)) (phrasesIn (now (book .entry)) (now (own .entry)) count) head)) (machineState (now (registers .entry)) (now (answers .entry)) m)) × (r .left .machine .steps ≡ m .steps + 1) ⌝ }
+    ensures { λ r. ⌜ got 0 (placeAt (now (plate .entry)) (r .next)) ≡ endWith 0 (headed (now (plate .entry)) (phrasesIn (now (book .entry)) (now (own .entry)) count) head) ⌝ }
 {
-    match accepted_head(plate, bit) {
-        Head::Input { register, text } => ask(
-            plate,
-            text,
-            index,
-            book,
-            own,
-            count,
-            register,
-            answers,
-            registers,
-            out,
-            at,
-            m,
-        ),
+    match head {
+        Head::Input { register, text } => {
+            let line = put_line(plate, text, index, book, own, count, ASKED, out, at);
+            answer(line, register, answers, registers, out, m)
+        }
         Head::Inputs { register, text } => offer(
             plate,
             text,
@@ -119,10 +110,7 @@ fn perform_next<'a>(
         Head::Print { text } => show(plate, text, index, book, own, count, out, at, m),
         Head::Printex { text } => rule(plate, text, index, book, own, count, out, at, m),
         Head::Goto { skip, next } => go_on(machine::stepped(m), at, skip, next),
-        Head::IfSkip { bit, ahead } => {
-            let read = accepted_if(plate, bit, ahead);
-            decide(registers, read.test, read.skip, read.next, m, at)
-        }
+        Head::IfSkip { bit, ahead } => decide(registers, accepted_if(plate, bit, ahead), m, at),
     }
 }
 
@@ -152,10 +140,10 @@ pub fn meet<'a>(
         let next = accepted_end(plate, bit, behind, index, book, own, count);
         return go_on(m, at, over - 1, next);
     }
-    perform_next(
+    let head = accepted_head(plate, bit);
+    perform_head(
         plate,
-        bit,
-        behind,
+        head,
         index,
         book,
         own,

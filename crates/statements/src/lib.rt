@@ -1,7 +1,7 @@
 // What each statement does to the machine and to the transcript.
 // A statement takes the machine by value and returns it, with the outcome and the place where the transcript ends; the registers are lent
 // to it. Its contract says the whole answer, the registers and the whole buffer by `perform` (transcript/specs/Perform.antt): a line is stored
-// as far as the buffer goes, and counted to its end. The C line of inputs is written before, in pieces, and `choose` then takes the answer;
+// as far as the buffer goes, and counted to its end. The C line of inputs is written before, and `choose` then takes the answer;
 // a caller that writes another line itself then calls `answer` or `leave`.
 // Any text, any answers and any buffer will do. A register is below 32, and one step more must still fit a 64-bit number.
 use causes::Outcome;

@@ -1,37 +1,64 @@
 // The lines of the transcript, each written at the front of its unwritten tail.
-// A line is stored as far as the buffer goes, and counted to its end: `poured` (crate output) says both. A C line is written in pieces: its
-// question, and its end behind the options. Any text, any place and any buffer will do.
+// A line is stored as far as the buffer goes, and counted to its end: `poured` (crate output) says both. A line begins with its letter and a
+// comma, and ends with LF: who has its texts elsewhere writes it from these. Any text, any place and any buffer will do.
 ghost use mathlib.Core.Path.{_≡_};
 ghost use mathlib.Core.List.{[], _∷_, _++_};
-ghost use Rattle.text.specs.Parts.{LF};
+ghost use Rattle.text.specs.Parts.{comma, LF};
 ghost use Rattle.output.specs.Pour.{poured};
 ghost use Rattle.transcript.specs.State.{asked, answered, shown, ruled, lineBytes};
 ghost use Rattle.transcript.specs.Offered.{offerBytes};
+ghost use Rattle.transcript_lines.specs.TextLine.{textLine};
 
-// Three texts, one behind the other, at the front of the tail.
-fn put_texts(tail: &mut [u8], first: &[u8], second: &[u8], third: &[u8]) -> usize
-    ensures { λ r. ⌜ (r, now (tail .exit)) ≡ poured 0 ((now (first .entry) ++ now (second .entry)) ++ now (third .entry)) (now (tail .entry)) ⌝ }
+// The letters: "`Q,TEXT` for input; `C,TEXT,OPTION,..` for inputs; `A,number` for the answer taken; `S,TEXT` for print; `V,TEXT` for printex".
+pub const ASKED: u8 = b'Q';
+
+pub const OFFERED: u8 = b'C';
+
+pub const ANSWERED: u8 = b'A';
+
+pub const SHOWN: u8 = b'S';
+
+pub const RULED: u8 = b'V';
+
+// The beginning of a line, at the front of the tail.
+pub fn begin(tail: &mut [u8], letter: u8) -> usize
+    ensures { λ r. ⌜ (r, now (tail .exit)) ≡ poured 0 (letter ∷ comma ∷ []) (now (tail .entry)) ⌝ }
 {
-    let end = text_out::put(tail, 0, first);
-    let end = text_out::put(tail, end, second);
-    text_out::put(tail, end, third)
+    let end = text_out::put_byte(tail, 0, letter);
+    text_out::put_byte(tail, end, b',')
+}
+
+// The end of a line, behind what is written of it.
+pub fn end(tail: &mut [u8], at: usize) -> usize
+    ensures { λ r. ⌜ (r, now (tail .exit)) ≡ poured at (LF ∷ []) (now (tail .entry)) ⌝ }
+{
+    text_out::put_byte(tail, at, b'\n')
+}
+
+// The line of a letter and a text, at the front of the tail.
+fn text_in(tail: &mut [u8], letter: u8, text: &[u8]) -> usize
+    ensures { λ r. ⌜ (r, now (tail .exit)) ≡ poured 0 (textLine letter (now (text .entry))) (now (tail .entry)) ⌝ }
+{
+    let at = begin(tail, letter);
+    let at = text_out::put(tail, at, text);
+    end(tail, at)
 }
 
 // The A line of a number, at the front of the tail.
-fn put_answer(tail: &mut [u8], v: i32) -> usize
+fn answer_in(tail: &mut [u8], v: i32) -> usize
     ensures { λ r. ⌜ (r, now (tail .exit)) ≡ poured 0 (lineBytes (answered v)) (now (tail .entry)) ⌝ }
 {
-    let end = text_out::put(tail, 0, b"A,");
-    let end = text_out::put_number(tail, end, v);
-    text_out::put_byte(tail, end, b'\n')
+    let at = begin(tail, ANSWERED);
+    let at = text_out::put_number(tail, at, v);
+    end(tail, at)
 }
 
-// Three texts at a place of the transcript: its tail from there on, which is empty past the buffer's end, takes them.
-fn texts_at(out: &mut [u8], at: usize, first: &[u8], second: &[u8], third: &[u8]) -> usize
-    ensures { λ r. ⌜ (r, now (out .exit)) ≡ poured at ((now (first .entry) ++ now (second .entry)) ++ now (third .entry)) (now (out .entry)) ⌝ }
+// The line of a letter and a text at a place of the transcript: its tail from there on, which is empty past the buffer's end, takes it.
+fn put_text(out: &mut [u8], at: usize, letter: u8, text: &[u8]) -> usize
+    ensures { λ r. ⌜ (r, now (out .exit)) ≡ poured at (textLine letter (now (text .entry))) (now (out .entry)) ⌝ }
 {
     let from = output::least(at, out.len());
-    let n = put_texts(&mut out[from..], first, second, third);
+    let n = text_in(&mut out[from..], letter, text);
     output::sum(at, n)
 }
 
@@ -39,21 +66,14 @@ fn texts_at(out: &mut [u8], at: usize, first: &[u8], second: &[u8], third: &[u8]
 pub fn put_asked(out: &mut [u8], at: usize, text: &[u8]) -> usize
     ensures { λ r. ⌜ (r, now (out .exit)) ≡ poured at (lineBytes (asked (now (text .entry)))) (now (out .entry)) ⌝ }
 {
-    texts_at(out, at, b"Q,", text, b"\n")
+    put_text(out, at, ASKED, text)
 }
 
-// The S line of a text.
-pub fn put_shown(out: &mut [u8], at: usize, text: &[u8]) -> usize
-    ensures { λ r. ⌜ (r, now (out .exit)) ≡ poured at (lineBytes (shown (now (text .entry)))) (now (out .entry)) ⌝ }
+// The C line of a question, with its options behind it, each behind a comma.
+pub fn put_offered(out: &mut [u8], at: usize, texts: &[u8]) -> usize
+    ensures { λ r. ⌜ (r, now (out .exit)) ≡ poured at (offerBytes (now (texts .entry)) ++ (LF ∷ [])) (now (out .entry)) ⌝ }
 {
-    texts_at(out, at, b"S,", text, b"\n")
-}
-
-// The V line of a verdict.
-pub fn put_ruled(out: &mut [u8], at: usize, text: &[u8]) -> usize
-    ensures { λ r. ⌜ (r, now (out .exit)) ≡ poured at (lineBytes (ruled (now (text .entry)))) (now (out .entry)) ⌝ }
-{
-    texts_at(out, at, b"V,", text, b"\n")
+    put_text(out, at, OFFERED, texts)
 }
 
 // The A line of an answer.
@@ -61,20 +81,20 @@ pub fn put_answered(out: &mut [u8], at: usize, v: i32) -> usize
     ensures { λ r. ⌜ (r, now (out .exit)) ≡ poured at (lineBytes (answered v)) (now (out .entry)) ⌝ }
 {
     let from = output::least(at, out.len());
-    let n = put_answer(&mut out[from..], v);
+    let n = answer_in(&mut out[from..], v);
     output::sum(at, n)
 }
 
-// A C line in pieces: its question first ..
-pub fn put_offer(out: &mut [u8], at: usize, text: &[u8]) -> usize
-    ensures { λ r. ⌜ (r, now (out .exit)) ≡ poured at (offerBytes (now (text .entry))) (now (out .entry)) ⌝ }
+// The S line of a text.
+pub fn put_shown(out: &mut [u8], at: usize, text: &[u8]) -> usize
+    ensures { λ r. ⌜ (r, now (out .exit)) ≡ poured at (lineBytes (shown (now (text .entry)))) (now (out .entry)) ⌝ }
 {
-    texts_at(out, at, b"C,", text, b"")
+    put_text(out, at, SHOWN, text)
 }
 
-// .. and its end.
-pub fn put_end(out: &mut [u8], at: usize) -> usize
-    ensures { λ r. ⌜ (r, now (out .exit)) ≡ poured at (LF ∷ []) (now (out .entry)) ⌝ }
+// The V line of a verdict.
+pub fn put_ruled(out: &mut [u8], at: usize, text: &[u8]) -> usize
+    ensures { λ r. ⌜ (r, now (out .exit)) ≡ poured at (lineBytes (ruled (now (text .entry)))) (now (out .entry)) ⌝ }
 {
-    texts_at(out, at, b"\n", b"", b"")
+    put_text(out, at, RULED, text)
 }

@@ -9,7 +9,6 @@ use Rattle.text.specs.Parts.{split, join, partsFrom, comma, LF}
 use Rattle.text.proofs.Places.{parts-none, parts-some}
 use Rattle.text.proofs.Splits.{join-split}
 use Rattle.output.specs.Pour.{poured}
-use Rattle.output.proofs.Pour.{then}
 use Rattle.transcript.specs.State.{offered, lineBytes}
 use Rattle.transcript.specs.Offered.{offerBytes}
 
@@ -32,10 +31,9 @@ module _ (line : List ℕ) (a : ℕ) (e : drop 2 (split comma line) ≡ partsFro
       ∙ sym e
       ∙ drop-cons (split comma line) 2 [] (omega (arith, length-drop 3 (split comma line))))
 
-  pub write-line : (at x : ℕ) (out mid : List ℕ) (z : ℕ × List ℕ) → (x, mid) ≡ poured at (offerBytes (take (length line - a) (drop a line))) out
-      → z ≡ poured x (LF ∷ []) mid → length out < 9223372036854775808
+  -- the line written
+  pub offered-line : (at : ℕ) (out : List ℕ) (z : ℕ × List ℕ) → z ≡ poured at (offerBytes (take (length line - a) (drop a line)) ++ (LF ∷ [])) out
       → z ≡ poured at (lineBytes (offered (getD (split comma line) 2 []) (drop 3 (split comma line)))) out
   unfolding lineBytes join
-  write-line at x out mid z f g h =
-      then at (offerBytes (take (length line - a) (drop a line))) (LF ∷ []) out x mid z f g h
-      ∙ ap (λ (b : List ℕ). poured at (offerBytes b ++ (LF ∷ [])) out) (take-all (length line - a) (drop a line) (simp length-drop (omega arith)) ∙ bytes-are)
+  offered-line at out z f =
+      f ∙ ap (λ (b : List ℕ). poured at (offerBytes b ++ (LF ∷ [])) out) (take-all (length line - a) (drop a line) (simp length-drop (omega arith)) ∙ bytes-are)

@@ -7,13 +7,24 @@ ghost use mathlib.Core.List.{[]};
 ghost use Prim.Native.Nat.{_+_, _<_};
 ghost use lib.ListN.{length, drop, getD};
 ghost use Rattle.text.specs.Parts.{split, comma};
+ghost use Rattle.output.specs.Pour.{poured};
 ghost use Rattle.transcript.specs.Statement.{inputs};
+ghost use Rattle.transcript.specs.State.{offered, lineBytes};
 ghost use Rattle.transcript.specs.Perform as statement;
 ghost use Rattle.transcript.specs.Machine.{machineState, laid, performed};
 ghost use Rattle.lines.specs.Answers.{Heads};
 ghost use Rattle.walk_blocks.specs.Says.{statementBy, Says};
 
-// inputs: the question with its options, which stand in the line as they do in the C line, and the answer.
+// The C line of an inputs line, in which the question and its options stand as they do in the C line.
+fn put_choices(line: &[u8], out: &mut [u8], at: usize) -> usize
+    requires { ⌜ 0 < length (drop 3 (split comma (now line))) ⌝ }
+    ensures { λ r. ⌜ (r, now (out .exit)) ≡ poured at (lineBytes (offered (getD (split comma (now (line .entry))) 2 []) (drop 3 (split comma (now (line .entry)))))) (now (out .entry)) ⌝ }
+{
+    let a = text_parts::part_start(line, b',', 2);
+    transcript_lines::put_offered(out, at, &line[a..])
+}
+
+// inputs: the question with its options, and then the answer.
 fn offer(
     line: &[u8],
     register: usize,
@@ -28,9 +39,7 @@ fn offer(
     ensures { λ r. ⌜ performed (now (registers .exit)) (now (answers .entry)) r (now (out .exit)) ≡ laid at (statement.perform (inputs register (getD (split comma (now (line .entry))) 2 []) (drop 3 (split comma (now (line .entry))))) (machineState (now (registers .entry)) (now (answers .entry)) m)) (now (out .entry)) ⌝ }
     ensures { λ r. ⌜ r .machine .steps ≡ m .steps + 1 ⌝ }
 {
-    let a = text_parts::part_start(line, b',', 2);
-    let end = transcript_lines::put_offer(out, at, &line[a..]);
-    let end = transcript_lines::put_end(out, end);
+    let end = put_choices(line, out, at);
     statements::choose(out, end, registers, register, options, answers, m)
 }
 

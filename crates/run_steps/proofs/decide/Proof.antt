@@ -28,10 +28,4 @@ returns-2 c =
 pub decide-spec : {M : Type 1} → statement M
 decide-spec =
     tie.close
-    (tie.spec
-    stepped-requires
-    holds-requires
-    go-on-requires
-    returns
-    go-on-requires-2
-    returns-2)
+    (tie.spec stepped-requires holds-requires go-on-requires returns go-on-requires-2 returns-2)

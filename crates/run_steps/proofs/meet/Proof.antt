@@ -2,6 +2,8 @@
 use Prim.Native.Nat.{_≤_, _<_}
 use mathlib.Core.Path.{_∙_}
 use native.Mathlib.Omega.{arith}
+use Rattle.instructions.proofs.HeadRead.{instruction-at}
+use Rattle.plate_texts.proofs.Known.{known-same}
 use Rattle.run_steps.proofs.Meeting.{lay-over, over-less, lay-none, over-none}
 use borrow.Author.Needs.{needs}
 use Rattle.run_steps.proofs.meet.Statement.{statement}
@@ -21,16 +23,24 @@ returns c =
     let some : 0 < c .before .before .before .before .before .before .before .before .before .args .over = omega arith in
     (lay-over _ _ _ _ _ _ (c .go-on .ensures .0 _ _ _) some, ((c .go-on .ensures .1 .0 ∙ over-less _ _ _ some, omega (arith, c .go-on .ensures .1 .2)), rw (c .go-on .ensures .1 .1) (c .before .accepted-end .ensures)))
 
-perform-next-requires : tie.Need-perform-next-requires
-perform-next-requires c κs = search needs
+accepted-head-requires : tie.Need-accepted-head-requires
+accepted-head-requires c κs = let pre = c .before .before .before .before .before .before .before .pre in (pre .0 .short, instruction-at _ _ _ _ (pre .1) (pre .0 .short))
+
+perform-head-requires : tie.Need-perform-head-requires
+perform-head-requires c κs =
+    let pre = c .before .before .before .before .before .before .before .before .before .before .pre in
+    let head = c .before .before .accepted-head .ensures in
+    (pre .0, head .1, known-same (head .0 _ _ (pre .1)) (pre .1), search needs)
 
 same-length : tie.Need-same-length
 same-length c = search needs
 
 returns-2 : tie.Need-returns-2
 returns-2 c =
-    let none : c .before .before .before .before .before .before .before .before .before .before .before .before .args .over ≤ 0 = omega arith in
-    (lay-none _ _ _ _ _ _ (c .before .before .perform-next .ensures .0) none, ((over-none _ _ _ _ (c .before .before .perform-next .ensures .1 .0 .0) none, omega (arith, c .before .before .perform-next .ensures .1 .0 .1)), c .before .before .perform-next .ensures .1 .1))
+    let start = c .before .before .before .before .before .before .before .before .before .before .before .before .before in
+    let none : start .args .over ≤ 0 = omega arith in
+    let done = rw (c .before .before .before .before .before .accepted-head .ensures .0 _ _ (start .pre .1)) at (c .before .before .perform-head .ensures) in
+    (lay-none _ _ _ _ _ _ (done .0) none, ((over-none _ _ _ _ (done .1 .0 .0) none, omega (arith, done .1 .0 .1)), done .1 .1))
 
 pub meet-spec : {M : Type 1} → statement M
 meet-spec =
@@ -40,6 +50,7 @@ meet-spec =
     sub-go-on
     go-on-requires
     returns
-    perform-next-requires
+    accepted-head-requires
+    perform-head-requires
     same-length
     returns-2)

@@ -12,12 +12,8 @@ use borrow.Author.Needs.{needs}
 use Rattle.run_steps.proofs.perform.rule.Statement.{statement}
 use Rattle.run_steps.proofs.perform.rule.Tie as tie
 
-slice-aggregate-put-line : tie.Need-slice-aggregate-put-line
-slice-aggregate-put-line c = search needs
-
 put-line-requires : tie.Need-put-line-requires
-put-line-requires c κs =
-    (search needs, printex-text _ _ (Printex _) refl (c .before .before .before .before .before .before .before .pre .1) refl)
+put-line-requires c κs = (search needs, printex-text _ _ (Printex _) refl (c .before .before .before .before .before .before .pre .1) refl)
 
 leave-requires : tie.Need-leave-requires
 leave-requires c κs = search needs
@@ -28,15 +24,9 @@ same-length c = search needs
 returns : tie.Need-returns
 unfolding lineBytes join
 returns c =
-    let is = printex-is _ _ (Printex _) refl (c .before .before .before .before .before .before .before .before .before .before .before .pre .1) refl in
-    (λ rs answers. lay-statement is _ _ _ _ (lay-perform _ _ _ (printex _) _ _ _ _ _ (c .before .before .before .put-line .ensures .0) (c .leave .ensures .0 rs answers _) (omega arith)), ((λ s. over-statement is s, c .leave .ensures .1 .1), c .before .before .before .put-line .ensures .1 ∙ printex-end _ _ (Printex _) refl refl))
+    let is = printex-is _ _ (Printex _) refl (c .before .before .before .before .before .before .before .before .before .before .pre .1) refl in
+    let line = c .before .before .before .put-line .ensures in
+    (λ rs answers. lay-statement is _ _ _ _ (lay-perform _ _ _ (printex _) _ _ _ _ _ (line .0) (c .leave .ensures .0 rs answers _) (omega arith)), ((λ s. over-statement is s, c .leave .ensures .1 .1), line .1 ∙ printex-end _ _ (Printex _) refl refl))
 
 pub rule-spec : {M : Type 1} → statement M
-rule-spec =
-    tie.close
-    (tie.spec
-    slice-aggregate-put-line
-    put-line-requires
-    leave-requires
-    same-length
-    returns)
+rule-spec = tie.close (tie.spec put-line-requires leave-requires same-length returns)

@@ -13,7 +13,7 @@ use Rattle.walking.specs.Walk.{walk, leave}
 use Rattle.plate.specs.Program.{Instruction, goto}
 use Rattle.running.specs.Run.{run}
 use Rattle.running.proofs.Passing.{pass-all, pass-suc}
-use Rattle.translate.specs.Translation.{translateBlock}
+use Rattle.translating.specs.Translation.{translateBlock}
 
 -- a block's instructions, with any others behind them
 abbrev Runs : Block → Type 0

@@ -16,7 +16,7 @@ use Rattle.causes.specs.declared.Written.the-variants.{Done, Refused}
 use Rattle.causes.proofs.Lent.{written-front}
 use Rattle.walking.specs.Call.{walkCall}
 use Rattle.running.specs.Call.{scratchNumbers, ran, runCall}
-use Rattle.translate.specs.Call.{translation, translateCall}
+use Rattle.translating.specs.Call.{translation, translateCall}
 use Rattle.agreement.specs.Agreement.{Agreement}
 use Rattle.agreement.specs.Composed.{translateThenRun}
 use Rattle.agreement.proofs.Demand3.{demand-3}

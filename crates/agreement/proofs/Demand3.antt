@@ -21,8 +21,8 @@ use Rattle.walking.specs.Call.{walked, walkCall}
 use Rattle.walking.proofs.Waits.{walk-waits}
 use Rattle.running.specs.Call.{ran, runCall}
 use Rattle.running.proofs.Steps.{run-steps}
-use Rattle.translate.specs.Translation.{translateBlock, translateGuide}
-use Rattle.translate.specs.Call.{translation}
+use Rattle.translating.specs.Translation.{translateBlock, translateGuide}
+use Rattle.translating.specs.Call.{translation}
 use Rattle.agreement.specs.Agreement.{theWalk, theTranscript, Agreement}
 use Rattle.agreement.proofs.Agreement.{agree, agree-report}
 use Rattle.agreement.proofs.Valid.{guide-valid}

@@ -13,9 +13,9 @@ use Rattle.guide.proofs.Accepted.{accepted-guide}
 use Rattle.guide.proofs.Guides.{guide-holds}
 use Rattle.plate.specs.Program.{Instruction, statement, goto, ifSkip}
 use Rattle.plate.proofs.Valid.{InstructionOk, InstructionsOk, ProgramOk}
-use Rattle.translate.specs.Translation.{translateBlock, translateGuide}
-use Rattle.translate.proofs.Skips.{block-fits}
-use Rattle.translate.proofs.Counted.{guide-counted}
+use Rattle.translating.specs.Translation.{translateBlock, translateGuide}
+use Rattle.translating.proofs.Skips.{block-fits}
+use Rattle.translating.proofs.Counted.{guide-counted}
 
 -- with more instructions behind it
 more-behind : (m n : ℕ) (i : Instruction) → m ≤ n → InstructionOk m i → InstructionOk n i

@@ -8,7 +8,7 @@ use Rattle.causes.specs.Answers.{Answer, wrote, ended, refusal, refusing}
 use Rattle.causes.specs.declared.Cause.the-variants.{TooShort}
 use Rattle.walking.specs.Call.{walkCall}
 use Rattle.running.specs.Call.{scratchNumbers}
-use Rattle.translate.specs.Call.{translateCall}
+use Rattle.translating.specs.Call.{translateCall}
 
 -- where translate accepts, the walk's answer and transcript, or 11 where the scratch is too short; a refusal of translate stays, and the
 -- transcript buffer is as it was

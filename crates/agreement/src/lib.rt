@@ -10,7 +10,7 @@ ghost use mathlib.Core.Path.{_≡_};
 ghost use lib.ListN.{length, take};
 ghost use Rattle.causes.specs.Answers.{wrote, ranAnswer};
 ghost use Rattle.running.specs.Call.{scratchNumbers};
-ghost use Rattle.translate.specs.Call.{translateCall};
+ghost use Rattle.translating.specs.Call.{translateCall};
 ghost use Rattle.agreement.specs.Agreement.{Agreement};
 ghost use Rattle.agreement.specs.Composed.{translateThenRun};
 

@@ -4,7 +4,7 @@ use mathlib.Core.List.{List, [], _∷_, _++_}
 use lib.ListN.{replicate}
 use Rattle.text.specs.Quoted.{bytes}
 use Rattle.causes.specs.Answers.{wrote}
-use Rattle.translate.specs.Call.{translateCall}
+use Rattle.translating.specs.Call.{translateCall}
 use Rattle.walking.specs.Call.{walkCall}
 use Rattle.cases.specs.Row.{Row, hex, times, printLine, numbered, refuses, writes, fits, guideRefused, meets}
 

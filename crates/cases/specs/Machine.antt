@@ -6,7 +6,7 @@ use Rattle.causes.specs.Answers.{ended, refusal}
 use Rattle.text.specs.Quoted.{bytes}
 use Rattle.walking.specs.Call.{walkCall}
 use Rattle.running.specs.Call.{runCall}
-use Rattle.translate.specs.Call.{translation}
+use Rattle.translating.specs.Call.{translation}
 use Rattle.cases.specs.Row.{Row, _gives_, refuses, fits, meets, bytesMade, untouched}
 
 -- an if on register 5 with an else: what it shows for an answer

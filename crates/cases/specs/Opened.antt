@@ -22,8 +22,8 @@ use Rattle.walking.specs.Call as WalkCall
 use Rattle.walking.specs.Walk as Walk
 use Rattle.running.specs.Call as RunCall
 use Rattle.running.specs.Run as Run
-use Rattle.translate.specs.Call as TranslateCall
-use Rattle.translate.specs.Translation as TranslateTranslation
+use Rattle.translating.specs.Call as TranslateCall
+use Rattle.translating.specs.Translation as TranslateTranslation
 use Rattle.printed.specs.Lines as PrintedLines
 use Rattle.printed.specs.Pairs as PrintedPairs
 use Rattle.show.specs.Show as Show

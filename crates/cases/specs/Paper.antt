@@ -10,7 +10,7 @@ use Rattle.plate.specs.Writing.{programBits, constantBits}
 use Rattle.plate.specs.Plate.{plateProgram}
 use Rattle.listing.specs.Listing.{listingProgram}
 use Rattle.listing.specs.Calls.{readPlateCall, writePlateCall}
-use Rattle.translate.specs.Call.{translateCall, translation}
+use Rattle.translating.specs.Call.{translateCall, translation}
 use Rattle.show.specs.Show.{shown}
 use Rattle.cases.specs.Row.{Row, _counts_, _prints_, hex, times, printLine, refuses, writes, meets, bytesMade}
 

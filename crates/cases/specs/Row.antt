@@ -15,7 +15,7 @@ use Rattle.decimals.specs.Number.{decimalℕ}
 use Rattle.walking.specs.Call.{walkCall}
 use Rattle.running.specs.Call.{runCall}
 use Rattle.listing.specs.Calls.{readPlateCall}
-use Rattle.translate.specs.Call.{translation, translateCall}
+use Rattle.translating.specs.Call.{translation, translateCall}
 
 pub data Row : Type 0 where
   -- a call's answer and buffer

@@ -6,7 +6,7 @@ use Rattle.text.specs.Quoted.{bytes}
 use Rattle.listing.specs.Calls.{writePlateCall, readPlateCall}
 use Rattle.walking.specs.Call.{walkCall}
 use Rattle.running.specs.Call.{runCall}
-use Rattle.translate.specs.Call.{translateCall}
+use Rattle.translating.specs.Call.{translateCall}
 use Rattle.cases.specs.Row.{Row, plate, writes, ends}
 
 -- a book of two phrases, and a guide with an own phrase: two of its texts are in the book, one is its own phrase, one is neither

@@ -4,7 +4,7 @@
 ghost use mathlib.Core.Path.{_≡_};
 ghost use lib.ListN.{length};
 ghost use Rattle.causes.specs.Answers.{writtenAnswer, ranAnswer};
-ghost use Rattle.translate.specs.Call.{translateCall};
+ghost use Rattle.translating.specs.Call.{translateCall};
 ghost use Rattle.listing.specs.Calls.{writePlateCall, readPlateCall};
 ghost use Rattle.walking.specs.Call.{walkCall};
 ghost use Rattle.running.specs.Call.{runCall};

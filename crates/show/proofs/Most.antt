@@ -28,7 +28,7 @@ use Rattle.causes.specs.declared.Cause.the-variants.{
   Filling,
 }
 use Rattle.decimals.proofs.Decimals.{decimalℕ-short}
-use Rattle.translate.specs.Call.{translation}
+use Rattle.translating.specs.Call.{translation}
 use Rattle.printed.specs.Pairs.{pairs}
 use Rattle.printed.specs.Lines.{plateLine, refusedLine}
 use Rattle.show.specs.Show.{shown}

@@ -25,8 +25,8 @@ use Rattle.listing.specs.Listing.{listingText}
 use Rattle.listing.specs.Calls.{readListing, readPlateCall}
 use Rattle.listing.proofs.Sizes.{listing-short}
 use Rattle.guide.specs.Guide.{Guide, guideOf}
-use Rattle.translate.specs.Translation.{translateGuide}
-use Rattle.translate.specs.Call.{translation, translateCall}
+use Rattle.translating.specs.Translation.{translateGuide}
+use Rattle.translating.specs.Call.{translation, translateCall}
 use Rattle.agreement.proofs.Valid.{guide-valid}
 use Rattle.printed.specs.Lines.{plateLine, refusedLine}
 use Rattle.show.specs.Show.{accepted, shown}

@@ -7,7 +7,7 @@ use Rattle.phrases.specs.Book.{bookPhrases}
 use Rattle.plate.specs.Writing.{plateBytes, plateSized}
 use Rattle.listing.specs.Listing.{listingText}
 use Rattle.guide.specs.Guide.{guideOf}
-use Rattle.translate.specs.Translation.{translateGuide}
+use Rattle.translating.specs.Translation.{translateGuide}
 
 -- "takes the book as empty, and prints the listing, then `plate,` and the bytes"
 unfoldable pub accepted : List ℕ → Result (List ℕ)

@@ -15,7 +15,7 @@ use Rattle.guide.specs.Lines.{firstRole, beginsBy, bodyLines}
 use Rattle.guide.proofs.Blocks.{blockLines, parse-sound}
 use Rattle.plate.specs.Program.{Instruction, statement, goto, ifSkip, skipOf}
 use Rattle.assemble.specs.LineCode.{linesCode}
-use Rattle.translate.specs.Translation.{translateBlock}
+use Rattle.translating.specs.Translation.{translateBlock}
 use Rattle.translate.specs.Lengths.{Extent, Counter, behind, andThen, atElse, skipOver, gotoOver, ifWith, statementLength, blockWith, blockLength}
 use Rattle.translate.proofs.Counting.{count-ends}
 

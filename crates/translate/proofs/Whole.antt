@@ -30,12 +30,12 @@ use Rattle.guide.specs.Block.{blockOf}
 use Rattle.guide.specs.Guide.{guideOf}
 use Rattle.guide.specs.Lines.{linesAt}
 use Rattle.guide.proofs.Accepted.{accepted-guide}
-use Rattle.translate.specs.Translation.{translateBlock, translateGuide}
-use Rattle.translate.specs.Call.{translation, translateCall}
+use Rattle.translating.specs.Translation.{translateBlock, translateGuide}
+use Rattle.translating.specs.Call.{translation, translateCall}
 use Rattle.translate.specs.Lengths.{skipTable}
-use Rattle.translate.proofs.Counted.{guide-counted}
+use Rattle.translating.proofs.Counted.{guide-counted}
 use Rattle.translate.proofs.Coded.{lines-code}
-use Rattle.translate.proofs.Skips.{block-fits}
+use Rattle.translating.proofs.Skips.{block-fits}
 
 -- ---- the book and the guide
 

@@ -1,3 +1,1 @@
-pub mod Translation
-pub mod Call
 pub mod Lengths

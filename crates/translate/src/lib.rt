@@ -1,5 +1,6 @@
 // The translator: guide to plate.
-// specs/Translation.antt says which instructions a block is, specs/Call.antt what the call answers and leaves in the lent buffer.
+// Crate translating says which instructions a block is (specs/Translation.antt), and what the call answers and leaves in the lent buffer
+// (specs/Call.antt).
 // The book is checked, unless it is empty, then the guide, and a refusal leaves the buffer as it was. The skips are counted first, by
 // recursion into nested blocks, into a table of 512 numbers (specs/Lengths.antt). Then crate assemble makes the plate line by line: an if
 // and an else line take their skip from the table.
@@ -19,7 +20,7 @@ use phrases::INDEX_NUMBERS;
 ghost use mathlib.Core.Path.{_≡_};
 ghost use Rattle.causes.specs.Answers.{writtenAnswer};
 ghost use Rattle.phrases.specs.Index.{CheckedBook};
-ghost use Rattle.translate.specs.Call.{translateCall};
+ghost use Rattle.translating.specs.Call.{translateCall};
 
 // The plate with a book that is checked.
 fn translate_with(guide: &[u8], index: &mut [u32], book: &[u8], plate: &mut [u8]) -> Written

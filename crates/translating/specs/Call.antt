@@ -5,7 +5,7 @@ use Rattle.causes.specs.Answers.{Result, made, _>>=_, Answer, output, lent}
 use Rattle.phrases.specs.Book.{bookPhrases}
 use Rattle.guide.specs.Guide.{guideOf}
 use Rattle.plate.specs.Writing.{plateBytes, plateSized}
-use Rattle.translate.specs.Translation.{translateGuide}
+use Rattle.translating.specs.Translation.{translateGuide}
 
 -- the plate of a guide: 1, 2, 3 to 7 and 9, 10
 unfoldable pub translation : List ℕ → List ℕ → Result (List ℕ)

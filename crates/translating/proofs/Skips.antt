@@ -10,8 +10,8 @@ use Rattle.guide.specs.Guide.{Guide, guideOf}
 use Rattle.guide.specs.Block.{Block, empty, does, ifThen, ifElse}
 use Rattle.plate.specs.Program.{Instruction, goto, skipOf}
 use Rattle.listing.proofs.Skips.{SkipsFit}
-use Rattle.translate.specs.Translation.{translateBlock, translateGuide}
-use Rattle.translate.proofs.Counted.{guide-room}
+use Rattle.translating.specs.Translation.{translateBlock, translateGuide}
+use Rattle.translating.proofs.Counted.{guide-room}
 
 fit-append : (p q : List Instruction) → SkipsFit p → SkipsFit q → SkipsFit (p ++ q)
 fit-append [] q h k = k

@@ -33,7 +33,7 @@ use Rattle.guide.specs.Guide.{Guide, guideOf}
 use Rattle.guide.proofs.Accepted.{accepted-guide}
 use Rattle.guide.proofs.Guides.{guide-holds}
 use Rattle.plate.specs.Program.{Instruction, goto}
-use Rattle.translate.specs.Translation.{translateBlock, translateGuide}
+use Rattle.translating.specs.Translation.{translateBlock, translateGuide}
 
 abbrev pub size : Block → ℕ
 size b = length (translateBlock b)

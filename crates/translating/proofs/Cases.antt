@@ -9,7 +9,7 @@ use Rattle.transcript.specs.Statement.{input, print, printex}
 use Rattle.transcript.specs.declared.Test.{Test}
 use Rattle.guide.specs.Block.{Block, empty, does, ifThen, ifElse}
 use Rattle.plate.specs.Program.{statement, goto, ifSkip}
-use Rattle.translate.specs.Translation.{translateBlock}
+use Rattle.translating.specs.Translation.{translateBlock}
 
 abbrev test : Op → ℤ → Test
 test op c = record { register = 0; op = op; constant = c }

@@ -153,9 +153,6 @@ block-Inv-loop guide answers registers₀ out₀ a at place₀ end₀ m₀ regis
 abbrev block-μ-loop : block-lts.MeasureT-loop
 block-μ-loop guide answers registers₀ out₀ a at place₀ end₀ m₀ registers out place end m = length (linesAt guide place)
 
-block-loop-holds : (t : ℕ) → block-lts.Need-loop-holds (block-calls t) (block-at t) block.Post block-Inv-loop block-μ-loop
-block-loop-holds t c = ((λ w rs o f. f), search needs, search needs, search needs, refl, search needs)
-
 block-statement-requires : (t : ℕ) → block-lts.Need-statement-requires (block-calls t) (block-at t) block.Post block-Inv-loop block-μ-loop
 block-statement-requires t c κs =
     let v = sym (c .before .before .before .begins .ensures) ∙ c .before .before .if1 .taken in
@@ -193,7 +190,7 @@ no-block-block-requires : (t : ℕ) → no-block-lts.Need-block-requires (no-blo
 no-block-block-requires t c κs =
     let r = c .before .before .before .before .role-at .ensures in
     let l = passed-no-more _ _ _ _ _ (c .before .before .before .before .before .pass-over .ensures .0) r in
-    (omega arith, (r .within, omega arith, r .clean))
+    (omega arith, (search needs, omega arith, search needs))
 
 no-block-returns : (t : ℕ) → no-block-lts.Need-returns (no-block-calls t) (no-block-at t) no-block.Post
 no-block-returns t c =
@@ -208,7 +205,7 @@ no-block-returns-2 t c =
     let v = sym (c .before .before .before .before .before .before .before .before .before .is-else .ensures) ∙ c .before .before .before .before .before .before .before .before .if1 .taken in
     let e = c .before .before .before .before .before .before .before .before .before .before .before .pass-over .ensures .0 in
     let r = c .before .before .before .before .before .before .before .before .before .before .role-at .ensures in
-    (else-ended _ _ _ _ (c .before .before .before .before .before .before .before .before .before .before .before .before .before .before .args .a) _ _ _ _ e r v _ _ _ (c .before .before .before .before .before .block .ensures .0) (sym (c .before .goes-on .ensures) ∙ c .if2 .left), paced-from _ _ _ _ (c .before .before .before .before .before .block .ensures .1) (passed-no-more _ _ _ _ _ e r))
+    (else-ended _ _ _ _ (c .before .before .before .before .before .before .before .before .before .before .before .before .before .before .args .a) _ _ _ _ e r v _ _ _ (c .before .before .before .before .before .block .ensures .0) (sym (c .before .goes-on .ensures) ∙ c .if2 .left), paced-from _ _ _ _ (c .before .before .before .before .before .block .ensures .1) (omega (arith, passed-no-more _ _ _ _ _ e r)))
 
 no-block-returns-3 : (t : ℕ) → no-block-lts.Need-returns-3 (no-block-calls t) (no-block-at t) no-block.Post
 no-block-returns-3 t c =
@@ -228,12 +225,6 @@ statement-returns t c =
     let b = ap beginsBy (sym (s .role)) ∙ c .before .before .before .before .before .before .before .before .before .pre .1 .1 in
     ((λ n l. leaves-as _ _ _ _ _ _ _ _ (leaves-performed _ _ _ _ _ _ _ _ _ (c .before .before .perform .ensures .0)) _ (line-performs _ _ (s .head) b (no-if _ (c .before .before .before .before .before .before .match .keys2)) _ _ _)), record { steps = omega arith; lines = omega arith; within = s .within; clean = c .before .before .before .before .before .before .before .before .before .pre .1 .3 })
 
-statement-stepped-requires : (t : ℕ) → statement-lts.Need-stepped-requires (statement-calls t) (statement-at t) statement′.Post
-statement-stepped-requires t c κs = omega (arith, few-lines (c .before .before .before .before .before .args .guide .now))
-
-statement-holds-requires : (t : ℕ) → statement-lts.Need-holds-requires (statement-calls t) (statement-at t) statement′.Post
-statement-holds-requires t c κs = if-test _ _ (c .before .before .before .before .before .before .before .pre .1 .0 .head) _ (c .before .before .before .head .given .1) .0
-
 statement-returns-2 : (t : ℕ) → statement-lts.Need-returns-2 (statement-calls t) (statement-at t) statement′.Post
 statement-returns-2 t c =
     ((λ n l. leaves-as _ _ _ _ _ _ _ _ (rw (c .before .before .before .before .before .before .before .before .stepped .ensures .0 _ _) at (c .before .before .true-block .ensures .0 n l)) _ (if-walks _ _ (c .before .before .before .before .before .before .before .before .before .before .before .before .before .before .pre .1 .0 .head) _ (c .before .before .before .before .before .before .before .before .before .before .head .given .1) _ _ _ _ (sym (c .before .before .before .before .before .if1 .taken) ∙ c .before .before .before .before .before .before .holds .ensures _ _))), c .before .before .true-block .ensures .1)
@@ -242,12 +233,6 @@ statement-returns-3 : (t : ℕ) → statement-lts.Need-returns-3 (statement-call
 statement-returns-3 t c =
     ((λ n l. leaves-as _ _ _ _ _ _ _ _ (rw (c .before .before .before .before .before .before .before .before .stepped .ensures .0 _ _) at (c .before .before .no-block .ensures .0 n l)) _ (if-walks _ _ (c .before .before .before .before .before .before .before .before .before .before .before .before .before .before .pre .1 .0 .head) _ (c .before .before .before .before .before .before .before .before .before .before .head .given .1) _ _ _ _ (sym (c .before .before .before .before .before .if1 .left) ∙ c .before .before .before .before .before .before .holds .ensures _ _))), c .before .before .no-block .ensures .1)
 
-true-block-returns : (t : ℕ) → true-block-lts.Need-returns (true-block-calls t) (true-block-at t) true-block.Post
-true-block-returns t c = (true-goes _ _ _ _ (c .before .before .before .before .before .before .before .before .before .before .before .before .args .a) _ _ _ _ (c .before .before .before .before .before .before .before .block .ensures .0) _ _ _ (sym (c .before .before .before .goes-on .ensures) ∙ c .before .before .if1 .taken) (c .leave-true .ensures .0 _ _ _) (omega (arith, c .before .before .before .before .before .before .before .before .before .before .before .before .good)), paced-from _ _ _ _ (c .leave-true .ensures .1) (c .before .before .before .before .before .before .before .block .ensures .1 .lines))
-
-true-block-returns-2 : (t : ℕ) → true-block-lts.Need-returns-2 (true-block-calls t) (true-block-at t) true-block.Post
-true-block-returns-2 t c = (true-ended _ _ _ _ (c .before .before .before .before .before .before .before .before .before .before .args .a) _ _ _ _ (c .before .before .before .before .before .block .ensures .0) (sym (c .before .goes-on .ensures) ∙ c .if1 .left), c .before .before .before .before .before .block .ensures .1)
-
 pub +block+no-block+statement+true-block-spec : {M : Type 1} → statement M
 +block+no-block+statement+true-block-spec =
     close μ-block μ-no-block μ-statement μ-true-block (λ t. block-lts.spec (block-calls t)
@@ -255,7 +240,7 @@ pub +block+no-block+statement+true-block-spec : {M : Type 1} → statement M
     block.Post
     block-Inv-loop
     block-μ-loop
-    (block-loop-holds t)
+    (λ c. ((λ w rs o f. f), search needs, search needs, search needs, refl, search needs))
     (λ c κs. search needs)
     (λ c κs. search needs)
     (block-statement-requires t)
@@ -292,8 +277,8 @@ pub +block+no-block+statement+true-block-spec : {M : Type 1} → statement M
     (statement-perform-requires t)
     (λ c. search needs)
     (statement-returns t)
-    (statement-stepped-requires t)
-    (statement-holds-requires t)
+    (λ c κs. omega (arith, few-lines (c .before .before .before .before .before .args .guide .now)))
+    (λ c κs. if-test _ _ (c .before .before .before .before .before .before .before .pre .1 .0 .head) _ (c .before .before .before .head .given .1) .0)
     (λ c κs. (search needs, (search needs, search needs, search needs)))
     (λ c. search needs)
     (statement-returns-2 t)
@@ -307,6 +292,6 @@ pub +block+no-block+statement+true-block-spec : {M : Type 1} → statement M
     (λ c κs. search needs)
     (λ c κs. search needs)
     (λ c. search needs)
-    (true-block-returns t)
+    (λ c. (true-goes _ _ _ _ (c .before .before .before .before .before .before .before .before .before .before .before .before .args .a) _ _ _ _ (c .before .before .before .before .before .before .before .block .ensures .0) _ _ _ (sym (c .before .before .before .goes-on .ensures) ∙ c .before .before .if1 .taken) (c .leave-true .ensures .0 _ _ _) (omega (arith, c .before .before .before .before .before .before .before .before .before .before .before .before .good)), paced-from _ _ _ _ (c .leave-true .ensures .1) (c .before .before .before .before .before .before .before .block .ensures .1 .lines)))
     (λ c. search needs)
-    (true-block-returns-2 t)
+    (λ c. (true-ended _ _ _ _ (c .before .before .before .before .before .before .before .before .before .before .args .a) _ _ _ _ (c .before .before .before .before .before .block .ensures .0) (sym (c .before .goes-on .ensures) ∙ c .if1 .left), c .before .before .before .before .before .block .ensures .1))

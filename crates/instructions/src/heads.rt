@@ -14,8 +14,9 @@ ghost use Rattle.plate_texts.specs.TextsAt.{Lent};
 ghost use Rattle.instructions.specs.Heads.{headed, HeadFits};
 use crate::Head;
 use crate::IfRead;
+use plate_constants::long_constant;
 use plate_constants::op_of;
-use plate_constants::signed;
+use plate_constants::short_constant;
 use plate_texts::copy_options;
 use plate_texts::copy_text;
 use transcript::Op;
@@ -28,10 +29,7 @@ fn long_if(plate: &[u8], at: usize, register: usize, op: Op, high: usize) -> IfR
     ensures { λ r. ⌜ (r .skip ≡ partAhead 16 9 (aheadIn (now (plate .entry)) (at + 29))) × (r .next ≡ at + 54) ⌝ }
 {
     let lower = bits_ahead::read_ahead(plate, at + 29);
-    let constant = signed(
-        high * 65536 + bits_ahead::part_ahead(lower, 0, 16),
-        2147483648,
-    );
+    let constant = long_constant(high * 65536 + bits_ahead::part_ahead(lower, 0, 16));
     let test = Test {
         register,
         op,
@@ -58,7 +56,7 @@ pub fn accepted_if(plate: &[u8], at: usize, ahead: usize) -> IfRead
     if bits_ahead::part_ahead(ahead, 11, 2) != 0 {
         return long_if(plate, at, register, op, first);
     }
-    let constant = signed(first, 32768);
+    let constant = short_constant(first);
     let test = Test {
         register,
         op,

@@ -1,3 +1,4 @@
 pub mod Halves
+pub mod ShortConstant
 pub mod SignedRead
 pub mod Ops

@@ -1,13 +1,10 @@
 // Constants of a plate, in two's complement: 16 bits, or 32 where 16 are not enough.
 ghost use mathlib.Core.Path.{_≡_};
-ghost use mathlib.Core.Bool.{cond};
-ghost use Prim.Native.Nat.{_+_, _-_, _≤_, _<_};
+ghost use Prim.Native.Nat.{_≤_, _<_};
 ghost use lib.ListN.{length};
-ghost use lib.Dec.{ltb};
-ghost use lib.IntN.{pos, negsuc};
 ghost use Rattle.causes.specs.Limits.{mostPlateBytes};
 ghost use Rattle.plate.specs.Reading.{number};
-ghost use Rattle.plate.specs.Plate.{constant, short, constantBy};
+ghost use Rattle.plate.specs.Plate.{signed, constant, short, constantBy};
 ghost use Rattle.fields.specs.Places.{placeAt, fieldRead, constantRead};
 use bits::Number;
 use causes::Cause;
@@ -18,15 +15,23 @@ use fields::read_field;
 use fields::read_plain;
 use plate::is_short;
 
-// The number whose two's complement is the value, where half of all values are not below 0.
-pub fn signed(value: usize, half: usize) -> i32
-    requires { ⌜ (value < half + half) × (half ≤ 2147483648) ⌝ }
-    ensures { λ r. ⌜ r ≡ cond (ltb value half) (pos value) (negsuc (half + half - 1 - value)) ⌝ }
+// The number whose two's complement of 16 bits is the value: 32768 more, the remainder by 65536, 32768 less.
+pub fn short_constant(value: usize) -> i32
+    requires { ⌜ value < 65536 ⌝ }
+    ensures { λ r. ⌜ r ≡ signed 16 value ⌝ }
 {
-    if value < half {
+    ((value + 32768) % 65536) as i32 - 32768
+}
+
+// The number whose two's complement of 32 bits is the value.
+pub fn long_constant(value: usize) -> i32
+    requires { ⌜ value < 4294967296 ⌝ }
+    ensures { λ r. ⌜ r ≡ signed 32 value ⌝ }
+{
+    if value < 2147483648 {
         value as i32
     } else {
-        !((half + half - 1 - value) as i32)
+        !((4294967295 - value) as i32)
     }
 }
 
@@ -39,7 +44,7 @@ fn read_short(plate: &[u8], at: usize) -> ConstantRead
     let Field::Is(value, next) = field else {
         return ConstantRead::Refused(field.refusal());
     };
-    ConstantRead::Is(signed(value, 32768), next)
+    ConstantRead::Is(short_constant(value), next)
 }
 
 // A number of 32 bits, read in two halves: each lies in four bytes, which are one load.
@@ -69,7 +74,7 @@ fn read_long(plate: &[u8], at: usize) -> ConstantRead
     let Field::Is(value, next) = field else {
         return ConstantRead::Refused(field.refusal());
     };
-    let constant = signed(value, 2147483648);
+    let constant = long_constant(value);
     if is_short(constant) {
         return ConstantRead::Refused(Refusal {
             cause: Cause::Spelling,

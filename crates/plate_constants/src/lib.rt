@@ -3,6 +3,7 @@
 mod constant;
 mod tests;
 
-pub use constant::signed;
+pub use constant::long_constant;
+pub use constant::short_constant;
 pub use tests::op_of;
 pub use tests::read_test;

@@ -43,8 +43,8 @@ returns c =
       (part-below 3 5 _ er, part-below 16 9 _ (l .1 .0)),
     )
 
-signed-requires : tie.Need-signed-requires
-signed-requires c κs = (part-below 0 16 _ (c .before .before .part-ahead3 .ensures .0), search needs)
+short-constant-requires : tie.Need-short-constant-requires
+short-constant-requires c κs = part-below 0 16 _ (c .before .before .part-ahead3 .ensures .0)
 
 part-ahead-requires-5 : tie.Need-part-ahead-requires-5
 part-ahead-requires-5 c κs = search needs
@@ -56,7 +56,7 @@ returns-2 : tie.Need-returns-2
 returns-2 c =
     let s = c .before .before .before .before .before .before .before .before .before .before in
     let first = c .before .before .before .before .part-ahead3 .ensures .0 in
-    let ez = held 16 refl (omega arith) _ _ (part-below 0 16 _ first) (c .before .signed .ensures) ∙ ap (signed 16) first in (
+    let ez = held 16 refl (omega arith) _ _ (part-below 0 16 _ first) (c .before .short-constant .ensures) ∙ ap (signed 16) first in (
       if-short _ _ (s .pre .2) (c .before .before .before .before .before .read-ahead .ensures) (c .before .before .before .before .before .before .before .before .part-ahead .ensures .0) (c .before .before .before .before .before .before .op-of .ensures ∙ ap opOf (c .before .before .before .before .before .before .before .part-ahead2 .ensures .0))
           (sym (c .before .before .before .part-ahead4 .ensures .0) ∙ c .before .before .if1 .left) ez (c .part-ahead5 .ensures .0),
       (part-below 3 5 _ (c .before .before .before .before .before .before .before .before .part-ahead .ensures .0), part-below 16 9 _ (c .part-ahead5 .ensures .0)),
@@ -75,7 +75,7 @@ accepted-if-spec =
     part-ahead-requires-4
     long-if-requires
     returns
-    signed-requires
+    short-constant-requires
     part-ahead-requires-5
     add-t12
     returns-2)

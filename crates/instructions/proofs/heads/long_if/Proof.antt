@@ -16,17 +16,17 @@ add-read-ahead c = search needs
 read-ahead-requires : tie.Need-read-ahead-requires
 read-ahead-requires c κs = search needs
 
-mul-signed : tie.Need-mul-signed
-mul-signed c = search needs
+mul-long-constant : tie.Need-mul-long-constant
+mul-long-constant c = search needs
 
 part-ahead-requires : tie.Need-part-ahead-requires
 part-ahead-requires c κs = search needs
 
-add-signed : tie.Need-add-signed
-add-signed c = search needs
+add-long-constant : tie.Need-add-long-constant
+add-long-constant c = search needs
 
-signed-requires : tie.Need-signed-requires
-signed-requires c κs = (omega (arith, part-below 0 16 _ (c .part-ahead .ensures .0), c .before .before .before .pre .2), search needs)
+long-constant-requires : tie.Need-long-constant-requires
+long-constant-requires c κs = omega (arith, part-below 0 16 _ (c .part-ahead .ensures .0), c .before .before .before .pre .2)
 
 part-ahead-requires-2 : tie.Need-part-ahead-requires-2
 part-ahead-requires-2 c κs = search needs
@@ -39,7 +39,7 @@ returns c =
     let s = c .before .before .before .before .before in
     let is = c .before .before .part-ahead .ensures .0 ∙ ap (partAhead 0 16) (c .before .before .before .read-ahead .ensures) in
     let below : s .args .high * 65536 + c .before .before .part-ahead .result < 2 ^ 32 = omega (arith, part-below 0 16 _ (c .before .before .part-ahead .ensures .0), s .pre .2) in
-    ((refl, refl, held 32 refl (omega arith) _ _ below (c .before .signed .ensures) ∙ ap (λ x. signed 32 (s .args .high * 65536 + x)) is), (c .part-ahead2 .ensures .0 ∙ ap (partAhead 16 9) (c .before .before .before .read-ahead .ensures), refl))
+    ((refl, refl, held 32 refl (omega arith) _ _ below (c .before .long-constant .ensures) ∙ ap (λ x. signed 32 (s .args .high * 65536 + x)) is), (c .part-ahead2 .ensures .0 ∙ ap (partAhead 16 9) (c .before .before .before .read-ahead .ensures), refl))
 
 pub long-if-spec : {M : Type 1} → statement M
 long-if-spec =
@@ -47,10 +47,10 @@ long-if-spec =
     (tie.spec
     add-read-ahead
     read-ahead-requires
-    mul-signed
+    mul-long-constant
     part-ahead-requires
-    add-signed
-    signed-requires
+    add-long-constant
+    long-constant-requires
     part-ahead-requires-2
     add-t11
     returns)

@@ -29,12 +29,9 @@ returns c =
     (then-stopped _ _ _
     (field-stopped _ _ (c .before .before .before .read-halves .ensures) (c .before .enum-told .given .1) (c .refusal .ensures)))
 
-signed-requires : tie.Need-signed-requires
-signed-requires c κs = (
-  got-good _ (gives-number 32)
-      (field-got _ _ (c .before .before .before .read-halves .ensures) (c .before .field .given .1)),
-  search needs,
-)
+long-constant-requires : tie.Need-long-constant-requires
+long-constant-requires c κs =
+    got-good _ (gives-number 32) (field-got _ _ (c .before .before .before .read-halves .ensures) (c .before .field .given .1))
 
 is-short-requires : tie.Need-is-short-requires
 is-short-requires c κs = search needs
@@ -42,13 +39,13 @@ is-short-requires c κs = search needs
 returns-2 : tie.Need-returns-2
 returns-2 c = let e = field-got _ _ (c .before .before .before .before .before .before .read-halves .ensures)
     (c .before .before .before .before .field .given .1) in
-    let l = signed-got 32 refl (omega arith) _ _ _ _ (got-good _ (gives-number 32) e) e (c .before .before .signed .ensures) in
+    let l = signed-got 32 refl (omega arith) _ _ _ _ (got-good _ (gives-number 32) e) e (c .before .before .long-constant .ensures) in
     judged-not long _ _ _ _ l (ap not (sym (c .before .is-short .ensures) ∙ c .if1 .taken))
 
 returns-3 : tie.Need-returns-3
 returns-3 c = let e = field-got _ _ (c .before .before .before .before .before .before .read-halves .ensures)
     (c .before .before .before .before .field .given .1) in
-    let l = signed-got 32 refl (omega arith) _ _ _ _ (got-good _ (gives-number 32) e) e (c .before .before .signed .ensures) in
+    let l = signed-got 32 refl (omega arith) _ _ _ _ (got-good _ (gives-number 32) e) e (c .before .before .long-constant .ensures) in
     judged-got long _ _ _ _ l (ap not (sym (c .before .is-short .ensures) ∙ c .if1 .left))
 
 pub read-long-spec : {M : Type 1} → statement M
@@ -60,7 +57,7 @@ read-long-spec =
     enum-told
     refusal-requires
     returns
-    signed-requires
+    long-constant-requires
     is-short-requires
     returns-2
     returns-3)

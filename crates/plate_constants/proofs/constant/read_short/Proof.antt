@@ -26,16 +26,13 @@ returns c =
     then-stopped _ _ _
     (field-stopped _ _ (c .before .before .before .read-plain .ensures) (c .before .enum-told .given .1) (c .refusal .ensures))
 
-signed-requires : tie.Need-signed-requires
-signed-requires c κs = (
-  got-good _ (gives-number 16)
-      (field-got _ _ (c .before .before .before .read-plain .ensures) (c .before .field .given .1)),
-  search needs,
-)
+short-constant-requires : tie.Need-short-constant-requires
+short-constant-requires c κs =
+    got-good _ (gives-number 16) (field-got _ _ (c .before .before .before .read-plain .ensures) (c .before .field .given .1))
 
 returns-2 : tie.Need-returns-2
 returns-2 c = let e = field-got _ _ (c .before .before .before .before .read-plain .ensures) (c .before .before .field .given .1) in
-    signed-got 16 refl (omega arith) _ _ _ _ (got-good _ (gives-number 16) e) e (c .signed .ensures)
+    signed-got 16 refl (omega arith) _ _ _ _ (got-good _ (gives-number 16) e) e (c .short-constant .ensures)
 
 pub read-short-spec : {M : Type 1} → statement M
 read-short-spec =
@@ -46,5 +43,5 @@ read-short-spec =
     enum-told
     refusal-requires
     returns
-    signed-requires
+    short-constant-requires
     returns-2)

@@ -16,10 +16,10 @@
 extern "C" {
 #endif
 
-/* Lengths that always do (document 01). */
+/* Lengths that always do (documents 01 and 02). */
 #define DOORPLATE_PLATE_BYTES 2953      /* no accepted plate is longer */
 #define DOORPLATE_LISTING_BYTES 327680  /* no accepted plate has a longer listing */
-#define DOORPLATE_SCRATCH_NUMBERS 512   /* what doorplate_run asks for */
+#define DOORPLATE_SCRATCH_NUMBERS 64    /* what doorplate_run asks for */
 
 /* Outcomes of a walk or a run. */
 #define DOORPLATE_VERDICT 0   /* a verdict was shown */
@@ -68,7 +68,7 @@ doorplate_written doorplate_read_plate(const uint8_t *plate, size_t plate_length
 doorplate_ran doorplate_walk(const uint8_t *guide, size_t guide_length, const uint8_t *book, size_t book_length,
                              const int32_t *answers, size_t answers_length, uint8_t *transcript, size_t transcript_length);
 
-/* The transcript of a plate, run on the answers. Refusals: 1, 8, 10 to 15; 11 also for fewer than 512 numbers of scratch.
+/* The transcript of a plate, run on the answers. Refusals: 1, 8, 10 to 15; 11 also for fewer than 64 numbers of scratch.
  * scratch is left as it was. On the bytes that doorplate_translate wrote for a guide, with the same book and enough scratch, the answer and
  * the buffer are those of doorplate_walk on that guide, for every list of answers and every buffer. */
 doorplate_ran doorplate_run(const uint8_t *plate, size_t plate_length, const uint8_t *book, size_t book_length,

@@ -3,6 +3,7 @@
 use harness::compare::{differences, Difference};
 use harness::perform::{perform, Case, Seen, MARGIN};
 use harness::reference::Model;
+use model::limits::SCRATCH;
 use model::vectors::Call;
 
 /// A run that is accepted, with a longer buffer than it needs.
@@ -15,7 +16,7 @@ fn case() -> Case {
         book,
         answers: vec![-7],
         room: 40,
-        scratch: 512,
+        scratch: SCRATCH,
         fill: 99,
     }
 }

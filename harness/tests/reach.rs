@@ -5,6 +5,7 @@ use harness::generate;
 use harness::library::Library;
 use harness::perform::{perform, Case};
 use harness::reference::Model;
+use model::limits::SCRATCH;
 use model::vectors::Call;
 use std::collections::BTreeMap;
 
@@ -89,6 +90,10 @@ fn every_limit_is_reached() {
         ("text", 64),
         ("text", 65),
         ("scratch", 0),
+        ("scratch", 1),
+        ("scratch", SCRATCH - 1),
+        ("scratch", SCRATCH),
+        ("scratch", SCRATCH + 1),
         ("scratch", 511),
         ("scratch", 512),
         ("scratch", 600),

@@ -1,4 +1,4 @@
-//! The limits of document 01, each in one place.
+//! The limits of documents 01 and 02, each in one place.
 
 /// Bytes of a guide.
 pub const MAX_GUIDE: usize = 16_384;
@@ -21,4 +21,4 @@ pub const REGISTERS: usize = 32;
 pub const MIN_OPTIONS: usize = 2;
 pub const MAX_OPTIONS: usize = 8;
 /// 16-bit numbers lent to a run.
-pub const SCRATCH: usize = 512;
+pub const SCRATCH: usize = 64;

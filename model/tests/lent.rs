@@ -2,6 +2,7 @@
 //! of tests/limits.rs and tests/records.rs is tried with several lengths too.
 
 use model::calls::{read_plate, run, translate, walk, write_plate, Ran};
+use model::limits::SCRATCH;
 use model::vectors::pattern;
 use model::Refusal;
 
@@ -57,7 +58,7 @@ fn transcripts() {
         let mut walked_out = pattern(length);
         let walked = walk(b"printex,OK\n", b"", &[], &mut walked_out);
         let mut run_out = pattern(length);
-        let run = run(&PLATE, b"", &[], &mut [0; 512], &mut run_out);
+        let run = run(&PLATE, b"", &[], &mut [0; SCRATCH], &mut run_out);
         assert_eq!((&run, &run_out), (&walked, &walked_out));
         if length < 5 {
             assert_eq!((walked, walked_out), (Err(SHORT), pattern(length)));
@@ -86,7 +87,7 @@ fn half_written_transcript() {
 }
 
 #[test]
-fn scratch_of_511_and_512() {
+fn scratch_of_63_and_64() {
     let run_with = |plate: &[u8], scratch: usize, room: usize| {
         let mut out = pattern(room);
         let result = run(plate, b"", &[], &mut vec![9; scratch], &mut out);
@@ -94,14 +95,16 @@ fn scratch_of_511_and_512() {
         result
     };
     for plate in [&PLATE[..], &[0, 0]] {
-        assert_eq!(run_with(plate, 0, 20), Err(SHORT));
-        assert_eq!(run_with(plate, 511, 20), Err(SHORT));
-        assert!(run_with(plate, 512, 20).is_ok());
-        assert!(run_with(plate, 513, 20).is_ok());
+        for short in [0, 1, 63] {
+            assert_eq!(run_with(plate, short, 20), Err(SHORT));
+        }
+        for enough in [64, 65, 511, 512] {
+            assert!(run_with(plate, enough, 20).is_ok());
+        }
     }
-    assert_eq!(run_with(&PLATE, 512, 4), Err(SHORT));
-    assert_eq!(run_with(&PLATE, 511, 4), Err(SHORT));
-    assert!(run_with(&[0, 0], 512, 0).is_ok());
+    assert_eq!(run_with(&PLATE, 64, 4), Err(SHORT));
+    assert_eq!(run_with(&PLATE, 63, 4), Err(SHORT));
+    assert!(run_with(&[0, 0], 64, 0).is_ok());
 }
 
 /// An empty result needs no room.
@@ -110,7 +113,7 @@ fn empty_results() {
     let ran = Ran { length: 0, outcome: 1, taken: 0, steps: 0 };
     assert_eq!(read_plate(&[0, 0], b"", &mut []), Ok(0));
     assert_eq!(walk(b"", b"", &[], &mut []), Ok(ran));
-    assert_eq!(run(&[0, 0], b"", &[], &mut [0; 512], &mut []), Ok(ran));
+    assert_eq!(run(&[0, 0], b"", &[], &mut [0; SCRATCH], &mut []), Ok(ran));
     assert_eq!(translate(b"", b"", &mut [0; 1]), Err(SHORT));
     assert_eq!(write_plate(b"", b"", &mut [0; 2]), Ok(2));
 }

@@ -4,10 +4,11 @@
 mod common;
 
 use common::counts::Counts;
-use common::{check_all_lent, ran, SCRATCH};
+use common::{check_all_lent, ran};
 use model::calls;
 use model::cases::Source;
 use model::generate;
+use model::limits::SCRATCH;
 use model::machine::Outcome;
 use model::rng::Rng;
 use model::vectors::{pattern, Call};

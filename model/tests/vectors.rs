@@ -3,6 +3,7 @@
 mod common;
 
 use common::cursor::Cursor;
+use model::limits::SCRATCH;
 use model::vectors::{checksums, collect, pattern, table, Call, Set, Vector};
 use std::collections::HashSet;
 use std::fs;
@@ -92,7 +93,7 @@ fn lines_of_answers() {
         input: input.to_vec(),
         book: Vec::new(),
         answers: vec![90],
-        scratch: 512,
+        scratch: SCRATCH,
     };
     let guide = vector(7, b"printex,OK\n");
     assert_eq!(guide.answer(Call::Translate), "Y,5,002C9F2C183037\n");
@@ -118,6 +119,22 @@ fn sizes() {
             assert!(vector.answers.len() <= 512);
             assert!(vector.scratch <= 600);
         }
+    }
+}
+
+/// One plate is run with each of these lengths of scratch: 64 numbers are enough.
+#[test]
+fn scratch_lengths_are_among_them() {
+    let mut answered = HashSet::new();
+    for vector in collect(Call::Run) {
+        let (values, _) = vector.call(Call::Run);
+        answered.insert((vector.scratch, values.map_or_else(|refusal| refusal.number, |_| 0)));
+    }
+    for scratch in [0, 1, 63] {
+        assert!(answered.contains(&(scratch, 11)) && !answered.contains(&(scratch, 0)));
+    }
+    for scratch in [64, 65, 511, 512, 600] {
+        assert!(answered.contains(&(scratch, 0)), "{scratch}");
     }
 }
 

@@ -1,5 +1,5 @@
 -- Demand 3, whole: for every book, guide and plate that the translation makes of it, every list of answers, every buffer of any length
--- and content, and every scratch of at least 512 numbers, the run of the plate is the walk of the guide.
+-- and content, and every scratch of at least `scratchNumbers` numbers, the run of the plate is the walk of the guide.
 use Prim.Native.Nat.{ℕ, _≤_}
 use mathlib.Core.Path.{_≡_, sym, subst, _∙_}
 use mathlib.Core.List.{List}
@@ -19,7 +19,7 @@ use Rattle.plate.proofs.RoundTrip.{written-read}
 use Rattle.plate.proofs.Sized.{sized-made}
 use Rattle.walking.specs.Call.{walked, walkCall}
 use Rattle.walking.proofs.Waits.{walk-waits}
-use Rattle.running.specs.Call.{ran, runCall}
+use Rattle.running.specs.Call.{scratchNumbers, ran, runCall}
 use Rattle.running.proofs.Steps.{run-steps}
 use Rattle.translating.specs.Translation.{translateBlock, translateGuide}
 use Rattle.translating.specs.Call.{translation}
@@ -36,14 +36,14 @@ module _ (book guide plate : List ℕ) (phrases : List Text) (g : Guide) (b : bo
       subst (λ (bs : List ℕ). plateProgram phrases bs ≡ made (translateGuide g)) (s .1)
       (written-read phrases (translateGuide g) (guide-valid phrases guide g e) (s .0))
 
-  module _ (answers : List ℤ) (scratch : ℕ) (buffer : List ℕ) (enough : 512 ≤ scratch) where
+  module _ (answers : List ℤ) (scratch : ℕ) (buffer : List ℕ) (enough : scratchNumbers ≤ scratch) where
     walk-lent : walkCall guide book answers buffer ≡ lent (made (report (theWalk g answers))) buffer
     unfolding walkCall walked
     walk-lent = rw (b, e)
 
     run-lent : runCall plate book answers scratch buffer ≡ lent (made (report (theWalk g answers))) buffer
     unfolding runCall ran translateGuide
-    run-lent = rw (b, holds, le-leb 512 scratch enough, agree-report (g .block) answers)
+    run-lent = rw (b, holds, le-leb scratchNumbers scratch enough, agree-report (g .block) answers)
 
     steps-few : stateOf (theWalk g answers) .steps ≤ length (translateGuide g .instructions)
     unfolding translateGuide
@@ -67,7 +67,7 @@ module _ (book guide plate : List ℕ) (phrases : List Text) (g : Guide) (b : bo
         }
 
 pub demand-3 : (book guide plate : List ℕ) → translation book guide ≡ made plate → (answers : List ℤ) (scratch : ℕ) (buffer : List ℕ)
-    → 512 ≤ scratch → Agreement book guide plate answers scratch buffer
+    → scratchNumbers ≤ scratch → Agreement book guide plate answers scratch buffer
 unfolding translation
 demand-3 book guide plate e =
     let b = made-from (bookPhrases book) _ plate e in

@@ -5,7 +5,7 @@ use lib.IntN.{ℤ, pos, negsuc}
 use Rattle.causes.specs.Answers.{ended, refusal}
 use Rattle.text.specs.Quoted.{bytes}
 use Rattle.walking.specs.Call.{walkCall}
-use Rattle.running.specs.Call.{runCall}
+use Rattle.running.specs.Call.{scratchNumbers, runCall}
 use Rattle.translating.specs.Call.{translation}
 use Rattle.cases.specs.Row.{Row, _gives_, refuses, fits, meets, bytesMade, untouched}
 
@@ -113,12 +113,12 @@ machine =
     ++ meets (bytes "if,0,eq,0\nprintex,a\nelse\nprint,b\nfi\n") [] (bytes "V,a\n") 0 0 2
     ++ meets (bytes "if,0,eq,0\ninput,0,a\nelse\nprint,b\nfi\n") [] (bytes "Q,a\n") 2 0 2
     ++ meets (bytes "if,0,eq,0\ninputs,0,q,a,b\nelse\nprint,b\nfi\n") (pos 2 ∷ []) (bytes "C,q,a,b\n") 3 0 2
-    -- a buffer just long enough, and one byte less; scratch of 512 and of 511
+    -- a buffer just long enough, and one byte less; scratch of 64 and of 63
     ++ fits (walkCall choice [] (pos 0 ∷ [])) (bytes "C,Lamp,on,off\nA,0\n") (ended 18 1 1 2)
     ++ fits
-    (runCall (bytesMade (translation [] choice)) [] (pos 0 ∷ []) 512)
+    (runCall (bytesMade (translation [] choice)) [] (pos 0 ∷ []) scratchNumbers)
     (bytes "C,Lamp,on,off\nA,0\n")
     (ended 18 1 1 2)
-    ++ refuses (runCall (bytesMade (translation [] choice)) [] (pos 0 ∷ []) 512) 11 0
-    ++ ((runCall (bytesMade (translation [] [])) [] [] 511 (untouched 4) gives (refusal 11 0, untouched 4)) ∷ [])
-    ++ ((runCall (bytesMade (translation [] [])) [] [] 512 (untouched 4) gives (ended 0 1 0 0, untouched 4)) ∷ [])
+    ++ refuses (runCall (bytesMade (translation [] choice)) [] (pos 0 ∷ []) scratchNumbers) 11 0
+    ++ ((runCall (bytesMade (translation [] [])) [] [] 63 (untouched 4) gives (refusal 11 0, untouched 4)) ∷ [])
+    ++ ((runCall (bytesMade (translation [] [])) [] [] 64 (untouched 4) gives (ended 0 1 0 0, untouched 4)) ∷ [])

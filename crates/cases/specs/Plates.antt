@@ -5,7 +5,7 @@ use lib.ListN.{replicate}
 use Rattle.text.specs.Quoted.{bytes}
 use Rattle.causes.specs.Answers.{wrote, ended, refusal}
 use Rattle.bits.specs.Bits.{pack}
-use Rattle.running.specs.Call.{runCall}
+use Rattle.running.specs.Call.{scratchNumbers, runCall}
 use Rattle.listing.specs.Calls.{readPlateCall}
 use Rattle.cases.specs.Row.{Row, _gives_, hex, bitsIn, plate, times, printLine, writes, fits, plateRefused, untouched}
 
@@ -107,8 +107,8 @@ plates =
     ++ plateRefused (plate "0 0000000001 010 00 0101100 0000011 01") [] 14 16
     ++ plateRefused (plate "0 0000000001 010 00 0000011 1") [] 14 16
     ++ plateRefused (plate "0 0000000001 010 00 0000011 0 00000000") [] 14 16
-    -- 11, after 15: scratch of 511 numbers, a short buffer
-    ++ ((runCall (hex "002C9F2C18") [] [] 511 (untouched 9) gives (refusal 11 0, untouched 9)) ∷ [])
+    -- 11, after 15: scratch of 63 numbers, a short buffer
+    ++ ((runCall (hex "002C9F2C18") [] [] 63 (untouched 9) gives (refusal 11 0, untouched 9)) ∷ [])
     ++ ((runCall (hex "002C9F2C19") [] [] 0 (untouched 9) gives (refusal 15 37, untouched 9)) ∷ [])
     ++ fits (readPlateCall (hex "002C9F2C18") []) (bytes "printex,OK\n") (wrote 11)
-    ++ fits (runCall (hex "002C9F2C18") [] [] 512) (bytes "V,OK\n") (ended 5 0 0 1)
+    ++ fits (runCall (hex "002C9F2C18") [] [] scratchNumbers) (bytes "V,OK\n") (ended 5 0 0 1)

@@ -13,7 +13,7 @@ use Rattle.text.specs.Parts.{LF}
 use Rattle.text.specs.Quoted.{bytes}
 use Rattle.decimals.specs.Number.{decimalℕ}
 use Rattle.walking.specs.Call.{walkCall}
-use Rattle.running.specs.Call.{runCall}
+use Rattle.running.specs.Call.{scratchNumbers, runCall}
 use Rattle.listing.specs.Calls.{readPlateCall}
 use Rattle.translating.specs.Call.{translation, translateCall}
 
@@ -110,7 +110,7 @@ guideRefused guide book number place =
 -- a plate that both the converter and the runner refuse
 abbrev pub plateRefused : List ℕ → List ℕ → ℕ → ℕ → List Row
 plateRefused plate book number place =
-    refuses (readPlateCall plate book) number place ++ refuses (runCall plate book [] 512) number place
+    refuses (readPlateCall plate book) number place ++ refuses (runCall plate book [] scratchNumbers) number place
 
 abbrev pub bytesMade : Result (List ℕ) → List ℕ
 bytesMade (made bs) = bs
@@ -127,4 +127,4 @@ ends call transcript outcome taken steps =
 abbrev pub meets : List ℕ → List ℤ → List ℕ → ℕ → ℕ → ℕ → List Row
 meets guide answers transcript outcome taken steps =
     ends (walkCall guide [] answers) transcript outcome taken steps
-    ++ ends (runCall (bytesMade (translation [] guide)) [] answers 512) transcript outcome taken steps
+    ++ ends (runCall (bytesMade (translation [] guide)) [] answers scratchNumbers) transcript outcome taken steps

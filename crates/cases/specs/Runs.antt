@@ -5,7 +5,7 @@ use lib.IntN.{ℤ, pos}
 use Rattle.text.specs.Quoted.{bytes}
 use Rattle.listing.specs.Calls.{writePlateCall, readPlateCall}
 use Rattle.walking.specs.Call.{walkCall}
-use Rattle.running.specs.Call.{runCall}
+use Rattle.running.specs.Call.{scratchNumbers, runCall}
 use Rattle.translating.specs.Call.{translateCall}
 use Rattle.cases.specs.Row.{Row, plate, writes, ends}
 
@@ -29,7 +29,7 @@ phrased =
 abbrev pub alike : List ℤ → List ℕ → ℕ → ℕ → ℕ → List Row
 alike answers transcript outcome taken steps =
     ends (walkCall guide book answers) transcript outcome taken steps
-    ++ ends (runCall phrased book answers 512) transcript outcome taken steps
+    ++ ends (runCall phrased book answers scratchNumbers) transcript outcome taken steps
 
 abbrev pub runs : List Row
 runs =
@@ -47,15 +47,15 @@ runs =
     ++ alike [] (bytes "Q,Volts\n") 2 0 1
     -- a run: goto and a failing if go to i + 1 + skip; what is passed over is no step; a last goto with skip 0 is one
     ++ ends
-    (runCall (plate "0 0000000011 100 000000001 011 00 1100001 0000011 010 00 1100010 0000011") [] [] 512)
+    (runCall (plate "0 0000000011 100 000000001 011 00 1100001 0000011 010 00 1100010 0000011") [] [] scratchNumbers)
     (bytes "S,b\n")
     1
     0
     2
     ++ ends
-    (runCall (plate "0 0000000011 101 00000 001 00 0000000000000000 000000001 010 00 1100001 0000011 010 00 1100010 0000011") [] [] 512)
+    (runCall (plate "0 0000000011 101 00000 001 00 0000000000000000 000000001 010 00 1100001 0000011 010 00 1100010 0000011") [] [] scratchNumbers)
     (bytes "S,b\n")
     1
     0
     2
-    ++ ends (runCall (plate "0 0000000001 100 000000000") [] [] 512) [] 1 0 1
+    ++ ends (runCall (plate "0 0000000001 100 000000000") [] [] scratchNumbers) [] 1 0 1

@@ -32,7 +32,7 @@ fn report(transcript: &[u8], r: Report) {
 
 // What is printed of the run.
 fn print(plate: &[u8], book: &[u8], answers: &[i32]) {
-    let mut scratch = [0; 512];
+    let mut scratch = [0; run::SCRATCH_NUMBERS];
     let mut transcript = [0; 327680];
     match run::run(plate, book, answers, &mut scratch, &mut transcript) {
         Ran::Refused(r) => refuse(r),

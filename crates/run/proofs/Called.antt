@@ -19,7 +19,7 @@ use Rattle.reader.specs.declared.PlateRead.{PlateRead}
 use Rattle.reader.specs.declared.PlateRead.the-variants.{Holds, Refused}
 use Rattle.reader.specs.Holding.{programAt, programRead, Stands}
 use Rattle.running.specs.Run.{run}
-use Rattle.running.specs.Call.{ran, runCall}
+use Rattle.running.specs.Call.{scratchNumbers, ran, runCall}
 use Rattle.run.specs.Accepted.{Accepted}
 
 -- the phrases of a book that is checked are at most 256
@@ -43,11 +43,11 @@ module _ (plate book own : List ℕ) (e : bookPhrases book ≡ made (bookTexts b
     call-plate r k = rw (e, is-read (Refused r) k)
 
     -- "scratch too short": 11
-    pub call-scratch : (c : Contents) → f ≡ Holds c → scratch < 512 → (refusing TooShort 0, out) ≡ runCall plate book answers scratch out
+    pub call-scratch : (c : Contents) → f ≡ Holds c → scratch < scratchNumbers → (refusing TooShort 0, out) ≡ runCall plate book answers scratch out
     unfolding runCall ran
-    call-scratch c k l = rw (e, is-read (Holds c) k, lt-leb 512 scratch l)
+    call-scratch c k l = rw (e, is-read (Holds c) k, lt-leb scratchNumbers scratch l)
 
-    pub call-run : (c : Contents) (y : Answer × List ℕ) → f ≡ Holds c → 512 ≤ scratch
+    pub call-run : (c : Contents) (y : Answer × List ℕ) → f ≡ Holds c → scratchNumbers ≤ scratch
         → y ≡ lent (made (report (run (programAt plate book own c .instructions) 0 (start answers)))) out → y ≡ runCall plate book answers scratch out
     unfolding runCall ran
-    call-run c y k l w = rw (e, is-read (Holds c) k, le-leb 512 scratch l) w
+    call-run c y k l w = rw (e, is-read (Holds c) k, le-leb scratchNumbers scratch l) w

@@ -25,6 +25,9 @@ ghost use Rattle.phrases.specs.Index.{CheckedBook};
 ghost use Rattle.reader.specs.Own.{OwnRoom, ownLines, ownStored};
 ghost use Rattle.running.specs.Call.{runCall};
 
+// The 16-bit numbers of scratch that a run asks for.
+pub const SCRATCH_NUMBERS: usize = 64;
+
 // The run with a book that is checked and room for the plate's own phrases, if it has some.
 fn run_own<'a>(
     plate: &[u8],
@@ -43,7 +46,7 @@ fn run_own<'a>(
     match reader::read_contents(plate, index, book, own) {
         PlateRead::Refused(r) => Ran::Refused(r),
         PlateRead::Holds(c) => {
-            if scratch.len() < 512 {
+            if scratch.len() < SCRATCH_NUMBERS {
                 return Ran::Refused(Refusal {
                     cause: Cause::TooShort,
                     place: 0,

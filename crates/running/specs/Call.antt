@@ -1,5 +1,5 @@
 -- The call `run`: its inputs and the lent buffer at entry, to its answer and the buffer at exit. The scratch's content afterwards is
--- open: "Scratch: 512 16-bit numbers, free in content afterwards."
+-- open: "Scratch: .. free in content afterwards." (document 01, "Run")
 use Prim.Native.Nat.{ℕ}
 use mathlib.Core.List.{List}
 use mathlib.Core.Bool.{cond}
@@ -13,9 +13,9 @@ use Rattle.transcript.specs.Perform.{report}
 use Rattle.plate.specs.Plate.{plateProgram}
 use Rattle.running.specs.Run.{run}
 
--- "Scratch: 512 16-bit numbers"
+-- document 02, l): "The panel group has 64 16-bit numbers to lend, not 512. .. For scratch, cause 11 now means fewer than 64"
 abbrev pub scratchNumbers : ℕ
-scratchNumbers = 512
+scratchNumbers = 64
 
 -- "scratch too short": 11
 abbrev pub enoughScratch : ℕ → Output → Result Output

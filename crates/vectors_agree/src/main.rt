@@ -64,7 +64,7 @@ fn call(
     second: &mut [u8],
 ) -> usize {
     let mut plate = [0u8; 2953];
-    let mut scratch = [0u16; 512];
+    let mut scratch = [0u16; run::SCRATCH_NUMBERS];
     if let Written::Refused(r) = translate::translate(guide, book, &mut plate) {
         return vectors_lines::put_written(line, 0, Written::Refused(r), &[]);
     }

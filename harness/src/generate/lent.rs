@@ -35,8 +35,8 @@ pub fn scratch(rng: &mut Rng, call: Call) -> usize {
     }
     match rng.below(16) {
         0 => SCRATCH - 1,
-        1 => 0,
-        2 => 600,
+        1 => rng.below(2),
+        2 => *rng.pick(&[SCRATCH + 1, 511, 512, 600]),
         3 => rng.between(0, 2 * SCRATCH),
         _ => SCRATCH,
     }

@@ -64,7 +64,7 @@ fn input_for(call: Call, case: &RecordCase) -> Option<Vec<u8>> {
 }
 
 /// One input of every call with each lent length about the result's, and each
-/// scratch about 512.
+/// scratch about the least; 511 and 512 are enough.
 fn lent_limits(call: Call) -> Vec<Vector> {
     let input = match call.source() {
         Source::Guide => b"input,0,Volts\nif,0,lt,100\nprint,low\nfi\nprintex,end\n".to_vec(),
@@ -82,7 +82,7 @@ fn lent_limits(call: Call) -> Vec<Vector> {
         vectors.push(vector(lent, SCRATCH));
     }
     if call == Call::Run {
-        for scratch in [0, 1, 511, 512, 513, 600] {
+        for scratch in [0, 1, SCRATCH - 1, SCRATCH, SCRATCH + 1, 511, 512, 600] {
             vectors.extend([length - 1, length, 100].map(|lent| vector(lent, scratch)));
         }
     }
@@ -106,7 +106,7 @@ fn random(call: Call, rng: &mut Rng, vectors: &mut Vec<Vector>) {
             long_ones += 1;
         }
         if rng.once_in(20) {
-            vector.scratch = *rng.pick(&[0, 511, 513]);
+            vector.scratch = *rng.pick(&[0, SCRATCH - 1, SCRATCH + 1]);
         }
         vector.lent = match vector.result_length(call) {
             Some(length) => lent_near(rng, length),

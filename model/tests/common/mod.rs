@@ -7,12 +7,10 @@ pub mod cursor;
 use model::calls::{self, Ran};
 use model::cases::records::RecordCase;
 use model::cases::{Case, Expected, Source};
+use model::limits::SCRATCH;
 use model::vectors::pattern;
 use model::{Record, Refusal};
 use std::fmt::Debug;
-
-/// The numbers of scratch that a run needs.
-pub const SCRATCH: usize = 512;
 
 /// Makes a lent call with buffers of several lengths. `whole` is what the
 /// function without buffers gives: the bytes of the result and its values.

@@ -1,11 +1,13 @@
 //! The cases of a seed reach every cause of every call and every limit; the library is right on some.
 
+use harness::calls::Answer;
 use harness::fuzz::all;
 use harness::generate;
 use harness::library::Library;
 use harness::perform::{perform, Case};
 use harness::reference::Model;
 use model::limits::SCRATCH;
+use model::refusal::cause::OWN_PHRASE;
 use model::vectors::Call;
 use std::collections::BTreeMap;
 
@@ -33,12 +35,13 @@ impl Met {
     }
 
     fn case(&mut self, case: &Case) {
-        let accepted = perform(&Model, case).answer.is_accepted();
+        let answer = perform(&Model, case).answer;
+        let accepted = answer.is_accepted();
         let lines = |bytes: &[u8]| bytes.iter().filter(|&&byte| byte == b'\n').count();
         self.add("book", lines(&case.book));
         match case.call {
-            Call::Translate | Call::Walk => self.guide(case, accepted),
-            Call::WritePlate => self.add("listing", case.input.len()),
+            Call::Translate | Call::Walk => self.guide(case, &answer),
+            Call::WritePlate => self.listing(case, accepted),
             Call::ReadPlate | Call::Run if accepted => self.add("plate", case.input.len()),
             Call::ReadPlate | Call::Run => self.add("refused plate", case.input.len()),
         }
@@ -47,11 +50,21 @@ impl Met {
         }
     }
 
-    fn guide(&mut self, case: &Case, accepted: bool) {
+    fn listing(&mut self, case: &Case, accepted: bool) {
+        self.add("listing", case.input.len());
+        let lines = case.input.split(|&byte| byte == b'\n');
+        let own = lines.filter(|line| line.starts_with(b"phrase,")).count();
+        self.add(if accepted { "own" } else { "refused own" }, own);
+    }
+
+    fn guide(&mut self, case: &Case, answer: &Answer) {
+        let accepted = answer.is_accepted();
         self.add(if accepted { "guide" } else { "refused guide" }, case.input.len());
-        let [mut own, mut level, mut deepest, mut instructions] = [0; 4];
+        if answer.number == OWN_PHRASE {
+            self.add("phrase line", answer.place as usize);
+        }
+        let [mut level, mut deepest, mut instructions] = [0; 3];
         for line in case.input.split(|&byte| byte == b'\n') {
-            own += usize::from(line.starts_with(b"phrase,"));
             level += usize::from(line.starts_with(b"if,"));
             deepest = deepest.max(level);
             level = level.saturating_sub(usize::from(line == b"fi"));
@@ -60,7 +73,6 @@ impl Met {
             let longest = line.split(|&byte| byte == b',').map(<[u8]>::len).max();
             self.add("text", longest.unwrap_or(0));
         }
-        self.add("own", own);
         self.add("levels", deepest);
         self.add(if accepted { "instructions" } else { "refused instructions" }, instructions);
     }
@@ -84,7 +96,9 @@ fn every_limit_is_reached() {
         ("instructions", 512),
         ("refused instructions", 513),
         ("own", 32),
-        ("own", 33),
+        ("refused own", 33),
+        ("phrase line", 1),
+        ("phrase line", 2),
         ("levels", 16),
         ("levels", 17),
         ("text", 64),

@@ -1,16 +1,10 @@
-//! A guide as nested blocks of statements.
+//! A guide as nested blocks of statements. It has no own phrases.
 
 use crate::action::{Action, Test};
 use crate::limits::{MAX_GUIDE, MAX_LEVELS};
 use crate::lines::{Line, Lines, Shared};
-use crate::phrases::Phrases;
 use crate::refusal::{cause, refuse, Refusal};
 use std::mem;
-
-pub struct Guide<'a> {
-    pub phrases: Phrases<'a>,
-    pub block: Block<'a>,
-}
 
 pub type Block<'a> = Vec<Statement<'a>>;
 
@@ -26,9 +20,8 @@ pub struct If<'a> {
     pub else_block: Option<Block<'a>>,
 }
 
-/// Reads a guide: causes 1 to 7 and 9.
-pub fn read<'a>(guide: &'a [u8], book: &'a [u8]) -> Result<Guide<'a>, Refusal> {
-    let mut phrases = Phrases::of_book(book)?;
+/// Reads a guide: causes 2 to 7 and 9.
+pub fn read(guide: &[u8]) -> Result<Block<'_>, Refusal> {
     if guide.len() > MAX_GUIDE {
         return refuse(cause::TOO_LONG, 0);
     }
@@ -47,18 +40,13 @@ pub fn read<'a>(guide: &'a [u8], book: &'a [u8]) -> Result<Guide<'a>, Refusal> {
                 continue;
             }
             _ => match line.shared()? {
-                Shared::Phrase(text) => {
-                    // The first other line is an instruction: no `fi` is accepted before one.
-                    line.add_own(&mut phrases, text, instructions > 0)?;
-                    continue;
-                }
+                Shared::Phrase(_) => return line.refuse(cause::OWN_PHRASE),
                 Shared::Action(action) => blocks.current.push(Statement::Action(action)),
             },
         }
         line.count_instruction(&mut instructions)?;
     }
-    let block = blocks.finish()?;
-    Ok(Guide { phrases, block })
+    blocks.finish()
 }
 
 /// The block that statements are added to, and the ifs around it.

@@ -28,13 +28,16 @@ pub mod translate;
 pub mod vectors;
 pub mod walk;
 
+use phrases::Phrases;
+
 pub use machine::Record;
 pub use refusal::Refusal;
 
 /// Guide to plate.
 pub fn translate(guide: &[u8], book: &[u8]) -> Result<Vec<u8>, Refusal> {
-    let guide = guide::read(guide, book)?;
-    plate::write(&translate::program(guide))
+    let phrases = Phrases::of_book(book)?;
+    let guide = guide::read(guide)?;
+    plate::write(&translate::program(guide, phrases))
 }
 
 /// Listing to plate.
@@ -51,7 +54,8 @@ pub fn read_plate(plate: &[u8], book: &[u8]) -> Result<Vec<u8>, Refusal> {
 
 /// Runs a guide from its text.
 pub fn walk(guide: &[u8], book: &[u8], answers: &[i32]) -> Result<Record, Refusal> {
-    let guide = guide::read(guide, book)?;
+    Phrases::of_book(book)?;
+    let guide = guide::read(guide)?;
     Ok(walk::walk(&guide, answers))
 }
 

@@ -10,7 +10,7 @@ pub const MAX_PLATE: usize = 2_953;
 pub const MAX_TEXT: usize = 64;
 /// Phrases of a book.
 pub const MAX_BOOK: usize = 256;
-/// Own phrases of a guide, listing or plate.
+/// Own phrases of a listing or plate.
 pub const MAX_OWN: usize = 32;
 /// Ifs around a statement.
 pub const MAX_LEVELS: usize = 16;

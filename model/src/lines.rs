@@ -3,7 +3,6 @@
 use crate::action::{Action, Op, Test};
 use crate::limits::{MAX_INSTRUCTIONS, MAX_OPTIONS, MIN_OPTIONS, REGISTERS};
 use crate::number;
-use crate::phrases::Phrases;
 use crate::refusal::{cause, refuse, Refusal};
 use crate::text::{self, LF};
 
@@ -45,8 +44,9 @@ impl<'a> Lines<'a> {
     }
 }
 
-/// A line of a kind that guides and listings share.
+/// A line of a kind whose fields guides and listings read alike.
 pub enum Shared<'a> {
+    /// Of a listing; in a guide it is 6.
     Phrase(&'a [u8]),
     Action(Action<'a>),
 }
@@ -113,20 +113,6 @@ impl<'a> Line<'_, 'a> {
 
     fn options(&self, fields: &[&'a [u8]]) -> Result<Vec<&'a [u8]>, Refusal> {
         fields.iter().map(|field| self.text(field)).collect()
-    }
-
-    /// Adds an own phrase: late, repeated or the 33rd is 6. It is late if an
-    /// instruction (or any line of another kind) came before it.
-    pub fn add_own(
-        &self,
-        phrases: &mut Phrases<'a>,
-        text: &'a [u8],
-        late: bool,
-    ) -> Result<(), Refusal> {
-        if late || !phrases.add_own(text) {
-            return self.refuse(cause::OWN_PHRASE);
-        }
-        Ok(())
     }
 
     /// Counts this line's instruction: the 513th is 9.

@@ -27,7 +27,10 @@ pub fn read<'a>(listing: &'a [u8], book: &'a [u8]) -> Result<Program<'a>, Refusa
             },
             _ => match line.shared()? {
                 Shared::Phrase(text) => {
-                    line.add_own(&mut phrases, text, count > 0)?;
+                    // Late, repeated or the 33rd. Every line of another kind is an instruction.
+                    if count > 0 || !phrases.add_own(text) {
+                        return line.refuse(cause::OWN_PHRASE);
+                    }
                     continue;
                 }
                 Shared::Action(action) => Instruction::Action(action),

@@ -1,4 +1,4 @@
-//! The phrases: those of the lent book and a guide's or plate's own.
+//! The phrases: those of the lent book and a listing's or plate's own.
 
 use crate::limits::{MAX_BOOK, MAX_OWN};
 use crate::refusal::{cause, refuse, Refusal};

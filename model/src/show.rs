@@ -1,5 +1,6 @@
 //! What the program `plateshow` prints.
 
+use crate::phrases::Phrases;
 use crate::refusal::Refusal;
 use crate::{guide, listing, plate, translate};
 
@@ -12,7 +13,8 @@ pub fn plateshow(guide: &[u8]) -> Vec<u8> {
 }
 
 fn shown(guide: &[u8]) -> Result<Vec<u8>, Refusal> {
-    let program = translate::program(guide::read(guide, b"")?);
+    let phrases = Phrases::of_book(b"")?;
+    let program = translate::program(guide::read(guide)?, phrases);
     let plate = plate::write(&program)?;
     let mut text = listing::write(&program);
     text.extend_from_slice(format!("plate,{}\n", upper_hex(&plate)).as_bytes());

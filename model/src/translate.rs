@@ -1,12 +1,13 @@
-//! Translation: a guide's blocks as instructions.
+//! Translation: a guide's blocks as instructions, with the phrases of the book.
 
-use crate::guide::{Block, Guide, If, Statement};
+use crate::guide::{Block, If, Statement};
+use crate::phrases::Phrases;
 use crate::program::{Instruction, Program};
 
-pub fn program(guide: Guide) -> Program {
+pub fn program<'a>(guide: Block<'a>, phrases: Phrases<'a>) -> Program<'a> {
     let mut instructions = Vec::new();
-    add_block(&mut instructions, guide.block);
-    Program { phrases: guide.phrases, instructions }
+    add_block(&mut instructions, guide);
+    Program { phrases, instructions }
 }
 
 fn add_block<'a>(out: &mut Vec<Instruction<'a>>, block: Block<'a>) {

@@ -1,11 +1,11 @@
 //! The walk: a guide run on its blocks.
 
-use crate::guide::{Block, Guide, Statement};
+use crate::guide::{Block, Statement};
 use crate::machine::{Machine, Outcome, Record};
 
-pub fn walk(guide: &Guide, answers: &[i32]) -> Record {
+pub fn walk(guide: &Block, answers: &[i32]) -> Record {
     let mut machine = Machine::new(answers);
-    let outcome = block(&guide.block, &mut machine).unwrap_or(Outcome::End);
+    let outcome = block(guide, &mut machine).unwrap_or(Outcome::End);
     machine.finish(outcome)
 }
 

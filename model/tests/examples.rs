@@ -109,15 +109,9 @@ fn i_last_goto() {
 fn plateshow_of_refused_guides() {
     assert_eq!(shown("print,a"), "refused,3,1\n");
     assert_eq!(shown("print,a\nprint\n"), "refused,4,2\n");
+    assert_eq!(shown("phrase,OK\nprint,OK\n"), "refused,6,1\n");
     assert_eq!(shown("if,0,eq,0\n"), "refused,7,1\n");
     assert_eq!(shown(&"x".repeat(16_385)), "refused,2,0\n");
     let too_large = format!("print,{}\n", "x".repeat(64)).repeat(52);
     assert_eq!(shown(&too_large), "refused,10,0\n");
-}
-
-#[test]
-fn plateshow_of_phrases() {
-    let by_hand = plate("1 0:5 'OK'; 1:10 010 10");
-    let hex = upper_hex(&by_hand.bytes());
-    assert_eq!(shown("phrase,OK\nprint,OK\n"), format!("phrase,OK\nprint,OK\nplate,{hex}\n"));
 }

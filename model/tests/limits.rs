@@ -54,7 +54,8 @@ tests_of_groups! {
     text_lengths line_bytes last_lf registers malformed_numbers options
     kinds kinds_of_one_source own_phrase_counts own_phrases_late own_phrases_repeated
     phrases_in_use
-    operators levels else_and_fi open_ifs guide_instructions skips_of_blocks
+    operators levels else_and_fi open_ifs guide_instructions
+    phrase_lines phrase_lines_at_limits phrase_lines_in_blocks skips_of_blocks
     skip_values skips_to_the_end listing_instructions
     book_places own_places places_of_both constants constants_outside
     guide_bytes listing_bytes longest_listing plate_bytes_written plate_bytes_read

@@ -1,5 +1,5 @@
 //! The cases of the vector program for phrases: what they hold, and that the
-//! model's rules for them agree with those of its guides and plates.
+//! model's rules for them agree with those of its listings and plates.
 
 mod common;
 
@@ -72,7 +72,7 @@ fn lines_of_phrases() {
     }
 }
 
-/// Own phrases as a guide has them, for as long as each is taken.
+/// Own phrases as a listing has them, for as long as each is taken.
 fn phrases_of<'a>(book: &'a [u8], own: &'a [u8], count: u64) -> Option<Phrases<'a>> {
     let mut phrases = Phrases::of_book(book).ok()?;
     let mut lines = own.split_inclusive(|&byte| byte == b'\n');

@@ -99,7 +99,7 @@ fn check_rooms(
     assert_eq!((run, &run_out), (expected, &expected_out));
 }
 
-const GUIDE_FEATURES: [&str; 18] = [
+const GUIDE_FEATURES: [&str; 17] = [
     "outcome Verdict",
     "outcome End",
     "outcome Waiting",
@@ -107,7 +107,6 @@ const GUIDE_FEATURES: [&str; 18] = [
     "16 levels",
     "512 instructions",
     "256 phrases in the book",
-    "32 own phrases",
     "text of 64 bytes",
     "8 options",
     "eq",
@@ -124,15 +123,11 @@ const GUIDE_FEATURES: [&str; 18] = [
 fn count_guide(counts: &mut Counts, guide: &[u8], book: &[u8], record: &Record) {
     counts.add(&format!("outcome {:?}", record.outcome));
     let mut level = 0;
-    let [mut highest, mut instructions, mut own] = [0; 3];
+    let [mut highest, mut instructions] = [0; 2];
     for line in guide.split(|&byte| byte == b'\n').filter(|line| !line.is_empty()) {
         let fields: Vec<&[u8]> = line.split(|&byte| byte == b',').collect();
         instructions += 1;
         match fields[..] {
-            [b"phrase", _] => {
-                own += 1;
-                instructions -= 1;
-            }
             [b"if", _, op, constant] => {
                 level += 1;
                 counts.add(std::str::from_utf8(op).expect("letters"));
@@ -152,8 +147,20 @@ fn count_guide(counts: &mut Counts, guide: &[u8], book: &[u8], record: &Record) 
     let in_book = book.iter().filter(|&&byte| byte == b'\n').count();
     counts.add_if(highest == 16, "16 levels");
     counts.add_if(instructions == 512, "512 instructions");
-    counts.add_if(own == 32, "32 own phrases");
     counts.add_if(in_book == 256, "256 phrases in the book");
+}
+
+/// Where an accepted listing has own phrases, and how many.
+const OWN_FEATURES: [&str; 4] =
+    ["no own phrase", "1 own phrase", "32 own phrases", "own phrases and a book"];
+
+fn count_own(counts: &mut Counts, listing: &[u8], book: &[u8]) {
+    let lines = listing.split(|&byte| byte == b'\n');
+    let own = lines.take_while(|line| line.starts_with(b"phrase,")).count();
+    counts.add_if(own == 0, "no own phrase");
+    counts.add_if(own == 1, "1 own phrase");
+    counts.add_if(own == 32, "32 own phrases");
+    counts.add_if(own > 0 && !book.is_empty(), "own phrases and a book");
 }
 
 /// Every accepted listing, written and read back, is the same listing.
@@ -167,6 +174,7 @@ fn listing_round_trip() {
         let plate = model::write_plate(listing, book);
         if let Ok(plate) = &plate {
             assert_eq!(model::read_plate(plate, book).as_deref(), Ok(listing));
+            count_own(&mut counts, listing, book);
         }
         counts.add_result(Call::WritePlate, &plate);
         let mut out = pattern(rng.below(60));
@@ -177,6 +185,7 @@ fn listing_round_trip() {
     }
     counts.print();
     counts.assert_causes_reached(Call::WritePlate);
+    counts.assert_reached(20, &OWN_FEATURES);
 }
 
 /// Every accepted plate, read and written again, is the same plate, and read
@@ -195,6 +204,7 @@ fn plate_round_trip() {
         if let (Ok(listing), Ok(record)) = (&listing, &record) {
             assert_eq!(model::write_plate(listing, book).as_deref(), Ok(plate));
             check_record(plate, book, &answers, record);
+            count_own(&mut counts, listing, book);
         }
         counts.add_result(Call::ReadPlate, &listing);
         counts.add_result(Call::Run, &record);
@@ -209,4 +219,5 @@ fn plate_round_trip() {
     counts.print();
     counts.assert_causes_reached(Call::ReadPlate);
     counts.assert_causes_reached(Call::Run);
+    counts.assert_reached(20, &OWN_FEATURES);
 }

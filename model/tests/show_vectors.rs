@@ -32,8 +32,8 @@ fn number(answer: &str) -> u32 {
     refused.map_or(0, |rest| rest.split(',').next().expect("a field").parse().expect("a number"))
 }
 
-/// Accepted guides, every cause that translate gives with an empty book, the
-/// longest guide, and those of the folder `examples`, accepted.
+/// Accepted guides, every cause that translate gives with an empty book, guides of
+/// 16,384 bytes and one more, and those of the folder `examples`, accepted.
 #[test]
 fn guides_and_causes() {
     let cases = collect();
@@ -43,7 +43,11 @@ fn guides_and_causes() {
         |guide: &[u8]| cases.iter().any(|case| case.guide == guide && number(&case.answer()) == 0);
     assert!(GUIDES.iter().all(|(_, guide)| accepted(guide)));
     let longest = cases.iter().filter(|case| accepted(&case.guide)).map(|case| case.guide.len());
-    assert_eq!(longest.max(), Some(16_384));
+    assert_eq!(longest.max(), Some(11_023));
+    let shown = |length, answer| {
+        cases.iter().any(|case| case.guide.len() == length && case.answer() == answer)
+    };
+    assert!(shown(16_384, "refused,10,0\n") && shown(16_385, "refused,2,0\n"));
 }
 
 /// The stored files of the folder `examples` are today's.

@@ -12,7 +12,8 @@ use Rattle.text.specs.Text.{Text}
 use Rattle.phrases.specs.Book.{bookPhrases}
 use Rattle.transcript.specs.State.{start}
 use Rattle.transcript.specs.Perform.{stateOf, report}
-use Rattle.guide.specs.Guide.{Guide, guideOf}
+use Rattle.guide.specs.Block.{Block}
+use Rattle.guide.specs.Guide.{guideOf}
 use Rattle.plate.specs.Writing.{plateBytes, plateSized}
 use Rattle.plate.specs.Plate.{plateProgram}
 use Rattle.plate.proofs.RoundTrip.{written-read}
@@ -27,7 +28,7 @@ use Rattle.agreement.specs.Agreement.{theWalk, theTranscript, Agreement}
 use Rattle.agreement.proofs.Agreement.{agree, agree-report}
 use Rattle.agreement.proofs.Valid.{guide-valid}
 
-module _ (book guide plate : List ℕ) (phrases : List Text) (g : Guide) (b : bookPhrases book ≡ made phrases)
+module _ (book guide plate : List ℕ) (phrases : List Text) (g : Block) (b : bookPhrases book ≡ made phrases)
     (e : guideOf phrases guide ≡ made g) (f : plateSized (plateBytes phrases (translateGuide g)) ≡ made plate) where
   -- the plate holds the guide's program
   holds : plateProgram phrases plate ≡ made (translateGuide g)
@@ -43,11 +44,11 @@ module _ (book guide plate : List ℕ) (phrases : List Text) (g : Guide) (b : bo
 
     run-lent : runCall plate book answers scratch buffer ≡ lent (made (report (theWalk g answers))) buffer
     unfolding runCall ran translateGuide
-    run-lent = rw (b, holds, le-leb scratchNumbers scratch enough, agree-report (g .block) answers)
+    run-lent = rw (b, holds, le-leb scratchNumbers scratch enough, agree-report g answers)
 
     steps-few : stateOf (theWalk g answers) .steps ≤ length (translateGuide g .instructions)
     unfolding translateGuide
-    steps-few = rw (agree (g .block) (start answers)) at (run-steps (translateBlock (g .block)) answers)
+    steps-few = rw (agree g (start answers)) at (run-steps (translateBlock g) answers)
 
     agreement : Agreement book guide plate answers scratch buffer
     unfolding report
@@ -63,7 +64,7 @@ module _ (book guide plate : List ℕ) (phrases : List Text) (g : Guide) (b : bo
           too-long = λ h. run-lent ∙ rw (lt-leb (length (theTranscript g answers)) (length buffer) h);
           otherwise = λ h. run-lent ∙ rw (le-leb (length (theTranscript g answers)) (length buffer) h);
           steps = steps-few;
-          waits = walk-waits (g .block) answers;
+          waits = walk-waits g answers;
         }
 
 pub demand-3 : (book guide plate : List ℕ) → translation book guide ≡ made plate → (answers : List ℤ) (scratch : ℕ) (buffer : List ℕ)

@@ -13,7 +13,8 @@ use Rattle.phrases.specs.Book.{bookPhrases}
 use Rattle.transcript.specs.State.{start, transcriptBytes}
 use Rattle.transcript.specs.Perform.{Ending, outcomeOf, stateOf}
 use Rattle.transcript.specs.Waiting.{Unanswered}
-use Rattle.guide.specs.Guide.{Guide, guideOf}
+use Rattle.guide.specs.Block.{Block}
+use Rattle.guide.specs.Guide.{guideOf}
 use Rattle.plate.specs.Program.{Program}
 use Rattle.plate.specs.Plate.{plateProgram}
 use Rattle.walking.specs.Walk.{walk}
@@ -21,18 +22,18 @@ use Rattle.walking.specs.Call.{walkCall}
 use Rattle.running.specs.Call.{runCall}
 
 -- the walk of a guide on a list of answers
-abbrev pub theWalk : Guide → List ℤ → Ending
-theWalk g answers = walk (g .block) (start answers)
+abbrev pub theWalk : Block → List ℤ → Ending
+theWalk g answers = walk g (start answers)
 
 -- its transcript
-abbrev pub theTranscript : Guide → List ℤ → List ℕ
+abbrev pub theTranscript : Block → List ℤ → List ℕ
 theTranscript g answers = transcriptBytes (stateOf (theWalk g answers) .transcript)
 
 -- the claim, in the order of the demand's sentences
 pub record Agreement (book guide plate : List ℕ) (answers : List ℤ) (scratch : ℕ) (buffer : List ℕ) : Type 0 where
   -- what the book, the guide and the plate hold
   pub phrases : List Text
-  pub g : Guide
+  pub g : Block
   pub p : Program
   pub book-holds : bookPhrases book ≡ made phrases
   pub guide-holds : guideOf phrases guide ≡ made g

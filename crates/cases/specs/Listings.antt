@@ -1,5 +1,5 @@
 -- The refusals of write_plate, each with its place; each limit of a listing and one past it; listing and plate both ways.
-use Prim.Native.Nat.{ℕ}
+use Prim.Native.Nat.{ℕ, zero, suc}
 use mathlib.Core.List.{List, [], _∷_, _++_}
 use lib.ListN.{replicate}
 use Rattle.text.specs.Quoted.{bytes}
@@ -7,11 +7,15 @@ use Rattle.causes.specs.Answers.{wrote}
 use Rattle.phrases.specs.Phrases.{width}
 use Rattle.listing.specs.Calls.{writePlateCall, readPlateCall}
 use Rattle.cases.specs.Row.{Row, _counts_, hex, times, printLine, numbered, refuses, writes, fits}
-use Rattle.cases.specs.Guides.{phraseLines}
 
 -- a listing written as a plate, and the plate read back
 abbrev pub both : List ℕ → List ℕ → List ℕ → List Row
 both listing book plate = writes (writePlateCall listing book) plate ++ writes (readPlateCall plate book) listing
+
+-- n own phrases
+unfoldable pub phraseLines : ℕ → List ℕ
+phraseLines zero = []
+phraseLines (suc n) = phraseLines n ++ bytes "phrase," ++ replicate (suc n) 97 ++ bytes "\n"
 
 -- the bits of a place among n phrases
 abbrev pub placeBits : ℕ → ℕ
@@ -70,6 +74,7 @@ listings =
     ++ refuses (writePlateCall (bytes "phrase,b\nphrase,b\n") []) 6 2
     ++ refuses (writePlateCall (bytes "phrase,b\n") (bytes "a\nb\n")) 6 1
     ++ refuses (writePlateCall (phraseLines 33) []) 6 33
+    ++ refuses (writePlateCall (phraseLines 32) []) 11 0
     -- 8: skip past n, at its line, after all lines; a skip to n is accepted; skips count instructions, lines count phrases too
     ++ refuses (writePlateCall (bytes "goto,1\nprint,a\nif,0,eq,0,1\n") []) 8 3
     ++ refuses (writePlateCall (bytes "phrase,x\nphrase,y\ngoto,1\n") []) 8 3

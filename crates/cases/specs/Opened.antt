@@ -28,7 +28,7 @@ use Rattle.printed.specs.Lines as PrintedLines
 use Rattle.printed.specs.Pairs as PrintedPairs
 use Rattle.show.specs.Show as Show
 use Rattle.cases.specs.Agree.{allAgree}
-use Rattle.cases.specs.Guides.{phraseLines}
+use Rattle.cases.specs.Listings.{phraseLines}
 use Rattle.cases.specs.Row.{hex, bitsIn, times, numbered}
 
 unfoldable pub opened : ℕ

@@ -23,10 +23,11 @@ use Rattle.lines.specs.declared.Head.the-variants as head
 use Rattle.lines.specs.Line.{lineOf}
 use Rattle.lines.specs.Check.{Open, Seen, causeOf, next, atEnd}
 use Rattle.lines.specs.Answers.{headOf, checkedAnswer}
+use Rattle.lines.proofs.Valid.{phrase-form}
 use Rattle.lines.proofs.Kept.{phrase-allowed}
 use Rattle.check_lines.specs.declared.seen.Seen.{Seen as Held}
 use Rattle.check_lines.specs.Held.{openIfs, seenOf, lineWith, Holds, Advanced, Passing}
-use Rattle.check_lines.specs.Numbers.{entered, Enters, Numbered}
+use Rattle.check_lines.specs.Numbers.{entered, ownRoom, Enters, Numbered}
 use Rattle.check_lines.proofs.LinesPassed.{Passed}
 use Rattle.check_lines.proofs.OwnEntered.{entered-phrase}
 use Rattle.check_lines.proofs.PhraseLines.{line-long, line-short, text-part}
@@ -35,9 +36,10 @@ use Rattle.check_lines.proofs.PhraseLines.{line-long, line-short, text-
 pub not-fine : {r : Refusal} {own n : ℕ} → Refused r ≡ Fine own n → ⊥
 not-fine e = let z : _≡_ {A = ℕ} 0 1 = cc in omega arith
 
-module _ (book text index : List ℕ) where
+module _ (form : Form) (book text index : List ℕ) where
   -- no line yet
-  pub numbered-none : Indexed index book → 161 + length (bookTexts book) ≤ length index → Numbered book text index index 0 0 0
+  pub numbered-none : Indexed index book → 129 + ownRoom form + length (bookTexts book) ≤ length index
+      → Numbered form book text index index 0 0 0
   numbered-none i r =
       record {
         indexed = i;
@@ -51,7 +53,7 @@ module _ (book text index : List ℕ) where
       }
 
   -- where the check accepts the text, a lookup can be lent what it left
-  pub listed-end : {first os : List ℕ} {m a : ℕ} {s : Held} → Numbered book text first index (s .own) m a → (t : Seen) → Holds t s os
+  pub listed-end : {first os : List ℕ} {m a : ℕ} {s : Held} → Numbered form book text first index (s .own) m a → (t : Seen) → Holds t s os
       → {r : Checked} → r ≡ checkedAnswer (atEnd (openIfs (s .depth) os) (seenOf (t .own) s os)) → (j n : ℕ) → r ≡ Fine j n
       → Listed index book text j
   listed-end {os = os} {s = s} v t c e j n h = go (openIfs (s .depth) os) (sym e ∙ h)
@@ -63,7 +65,7 @@ module _ (book text index : List ℕ) where
       go (x ∷ ifs) f = absurd (not-fine f)
 
 module _ {form : Form} {book text first index : List ℕ} {m a : ℕ} {s : Held} {os : List ℕ}
-    (g : Passed form (bookTexts book) text m a s os) (v : Numbered book text first index (s .own) m a)
+    (g : Passed form (bookTexts book) text m a s os) (v : Numbered form book text first index (s .own) m a)
     {e : ℕ} (k : e ≡ a + untilByte LF (drop a text)) (l : e ≤ length text) (o : e ≡ length text → ⊥) where
   abbrev here : List ℕ
   here = take (e - a) (drop a text)
@@ -93,11 +95,15 @@ module _ {form : Form} {book text first index : List ℕ} {m a : ℕ} {s : Held}
       start : a ≤ 72 * 31
       start = omega (arith, v .near behind-phrases, behind-phrases, few)
 
+      -- a guide has no such line
+      room : 161 + length (bookTexts book) ≤ length index
+      room = rw (ap ownRoom (phrase-form form here (sym z ∙ h))) at (v .room)
+
       pub enters : Enters (s .own) a e text index
       enters =
           let t = sym h ∙ z in
           record {
-            place = omega (arith, v .room, indexed-count index book (v .indexed), few);
+            place = omega (arith, room, indexed-count index book (v .indexed), few);
             near = omega (arith, start);
             start = line-long form text a e (omega arith) l t;
             end = l;
@@ -124,7 +130,7 @@ module _ {form : Form} {book text first index : List ℕ} {m a : ℕ} {s : Held}
 
       own-at : OwnAt last book text (s .own)
       own-at =
-          let n : 129 + length (bookTexts book) + s .own < length index = omega (arith, v .room, few) in
+          let n : 129 + length (bookTexts book) + s .own < length index = omega (arith, room, few) in
           record {
             room = simp length-set n;
             at = a + 7;
@@ -135,7 +141,7 @@ module _ {form : Form} {book text first index : List ℕ} {m a : ℕ} {s : Held}
             number = getD-set-same index (129 + length (bookTexts book) + s .own) _ 0 n ∙ ap (ownNumber (a + 7)) (sym text-is);
           }
 
-      with-phrase : length (ownTexts (suc (s .own)) text) ≡ suc (s .own) → Numbered book text first last (suc (s .own)) (m + 1) (e + 1)
+      with-phrase : length (ownTexts (suc (s .own)) text) ≡ suc (s .own) → Numbered form book text first last (suc (s .own)) (m + 1) (e + 1)
       with-phrase w =
           record {
             indexed = index-kept index book text (s .own) _ (v .indexed);
@@ -149,7 +155,7 @@ module _ {form : Form} {book text first index : List ℕ} {m a : ℕ} {s : Held}
           }
 
   -- another line
-  without : {own : ℕ} {last : List ℕ} → length (g .seen .own) ≡ own → last ≡ index → Numbered book text first last own (m + 1) (e + 1)
+  without : {own : ℕ} {last : List ℕ} → length (g .seen .own) ≡ own → last ≡ index → Numbered form book text first last own (m + 1) (e + 1)
   without n i =
       rw (i, ← n, g .holds .own)
       (record {
@@ -167,7 +173,7 @@ module _ {form : Form} {book text first index : List ℕ} {m a : ℕ} {s : Held}
   module _ {q : Held} {qs last : List ℕ} (w : length (ownTexts (q .own) text) ≡ q .own) where
     pub numbered-next : (d : Head) → d ≡ headOf (lineOf form here) → Passing d s os
         → ((x : Text) → Advanced (next (m + 1) (lineWith x d)) s os q qs) → last ≡ entered d (s .own) a e text index
-        → Numbered book text first last (q .own) (m + 1) (e + 1)
+        → Numbered form book text first last (q .own) (m + 1) (e + 1)
     unfolding entered
     numbered-next head.Phrase z p f i =
         let c = f [] .holds (g .seen .own) (g .holds .own) .own in

@@ -3,9 +3,12 @@ use Prim.Native.Nat.{ℕ, _+_, _-_, _*_, _≤_, _<_}
 use mathlib.Core.Path.{_≡_}
 use mathlib.Core.List.{List}
 use lib.ListN.{length, take, drop, getD, set}
+use Rattle.causes.specs.Limits.{mostOwn}
 use Rattle.phrases.specs.Lookup.{bookTexts}
-use Rattle.phrases.specs.Index.{entriesAt, withOwn, Indexed}
+use Rattle.phrases.specs.Index.{entriesAt, Indexed}
 use Rattle.phrases.specs.Own.{ownNumber, OwnNumbers, OwnKept}
+use Rattle.lines.specs.declared.Form.{Form}
+use Rattle.lines.specs.declared.Form.the-variants.{Guide, Listing}
 use Rattle.lines.specs.declared.Head.{Head}
 use Rattle.lines.specs.declared.Head.the-variants as head
 
@@ -24,6 +27,11 @@ entered (head.Goto j) k a e text index = index
 entered (head.IfSkip t j) k a e text index = index
 entered (head.Faulty c) k a e text index = index
 
+-- the room for the numbers of own phrases behind the index: a guide has none
+abbrev pub ownRoom : Form → ℕ
+ownRoom Guide = 0
+ownRoom Listing = mostOwn
+
 -- what the number of own phrase k takes
 pub record Enters (k a e : ℕ) (text index : List ℕ) : Type 0 where
   pub place : entriesAt + getD index 0 0 + k < length index
@@ -34,10 +42,10 @@ pub record Enters (k a e : ℕ) (text index : List ℕ) : Type 0 where
 
 -- the numbers of the first `own` lines of n lines before the place a, where `first` were lent; as long as all lines are phrases, each has
 -- at most 72 bytes
-pub record Numbered (book text first index : List ℕ) (own n a : ℕ) : Type 0 where
+pub record Numbered (form : Form) (book text first index : List ℕ) (own n a : ℕ) : Type 0 where
   pub indexed : Indexed index book
   pub size : length index ≡ length first
-  pub room : withOwn + length (bookTexts book) ≤ length index
+  pub room : entriesAt + ownRoom form + length (bookTexts book) ≤ length index
   pub numbers : OwnNumbers index book text own
   pub kept : OwnKept book first index
   pub few : own ≤ 32

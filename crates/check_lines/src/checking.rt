@@ -5,11 +5,12 @@ ghost use mathlib.Core.List.{List};
 ghost use lib.ListN.{length};
 ghost use Rattle.text.specs.Text.{Text};
 ghost use Rattle.phrases.specs.Lookup.{bookTexts};
-ghost use Rattle.phrases.specs.Index.{Indexed, withOwn};
+ghost use Rattle.phrases.specs.Index.{entriesAt, Indexed};
 ghost use Rattle.phrases.specs.Own.{Listed, OwnKept};
 ghost use Rattle.lines.specs.declared.Checked.the-variants.{Fine};
 ghost use Rattle.lines.specs.Check.{nothingSeen, checkFrom, atEnd, linesOf, mostBytes};
 ghost use Rattle.lines.specs.Answers.{seenIn, checkedAnswer};
+ghost use Rattle.check_lines.specs.Numbers.{ownRoom};
 ghost use Rattle.check_lines.specs.Held.{Sound, openIfs, seenOf};
 use crate::fault::Fault;
 use crate::fault::cause_of;
@@ -27,7 +28,7 @@ use lines::Form;
 // A guide or listing against this book, of which there is an index: 2 before the lines, then line by line, and 7 at the end. The numbers of
 // its own phrases stand behind the index afterwards.
 pub fn check(form: Form, index: &mut [u32], book: &[u8], text: &[u8]) -> Checked
-    requires { ⌜ Indexed (now index) (now book) × (withOwn + length (bookTexts (now book)) ≤ length (now index)) ⌝ }
+    requires { ⌜ Indexed (now index) (now book) × (entriesAt + ownRoom form + length (bookTexts (now book)) ≤ length (now index)) ⌝ }
     ensures { λ r. ⌜ r ≡ checkedAnswer (seenIn form (bookTexts (now (book .entry))) (now (text .entry))) ⌝ }
     ensures { λ r. ⌜ ((own n : ℕ) → r ≡ Fine own n → Listed (now (index .exit)) (now (book .entry)) (now (text .entry)) own) ⌝ }
     ensures { λ r. ⌜ OwnKept (now (book .entry)) (now (index .entry)) (now (index .exit)) ⌝ }
@@ -53,7 +54,7 @@ fn most_bytes(form: Form) -> usize
 
 // The lines, of which n end before the place a.
 fn check_lines(form: Form, index: &mut [u32], book: &[u8], text: &[u8]) -> Checked
-    requires { ⌜ Indexed (now index) (now book) × (withOwn + length (bookTexts (now book)) ≤ length (now index)) ⌝ }
+    requires { ⌜ Indexed (now index) (now book) × (entriesAt + ownRoom form + length (bookTexts (now book)) ≤ length (now index)) ⌝ }
     ensures { λ r. ⌜ r ≡ checkedAnswer (checkFrom (bookTexts (now (book .entry))) 1 nothingSeen (linesOf form (now (text .entry)))) ⌝ }
     ensures { λ r. ⌜ ((own n : ℕ) → r ≡ Fine own n → Listed (now (index .exit)) (now (book .entry)) (now (text .entry)) own) ⌝ }
     ensures { λ r. ⌜ OwnKept (now (book .entry)) (now (index .entry)) (now (index .exit)) ⌝ }

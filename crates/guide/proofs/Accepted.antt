@@ -1,14 +1,13 @@
--- What an accepted guide is: its lines make one block, its values meet the rules, and so do its own phrases.
-use Prim.Native.Nat.{ℕ, suc, _≤_}
-use mathlib.Core.Path.{_≡_, refl}
+-- What an accepted guide is: its lines are those of one block, its values meet the rules, and it has no own phrases.
+use Prim.Native.Nat.{ℕ, suc}
+use mathlib.Core.Path.{_≡_, refl, _∙_}
 use native.Mathlib.Omega.{arith}
 use mathlib.Core.List.{List, [], _∷_}
 use mathlib.Core.Bool.{false, true≢false}
 use mathlib.Core.Option.{none, Option·some-ne-none}
-use lib.ListN.{length, drop}
+use lib.ListN.{drop}
 use Rattle.causes.specs.Answers.{Result, made, refused}
 use Rattle.text.specs.Text.{Text}
-use Rattle.phrases.proofs.Valid.{PhrasesOk}
 use Rattle.transcript.specs.declared.Test.{Test}
 use Rattle.transcript.proofs.Valid.{TestOk}
 use Rattle.lines.specs.declared.Form.the-variants.{Guide as aGuide}
@@ -16,12 +15,12 @@ use Rattle.lines.specs.Line.{Line, phrase, says, ifLine, elseLine, fiLine, goto
 use Rattle.lines.specs.Check.{Open, Seen, nothingSeen, roomCause, elseCause, fiCause, causeOf, turn, next, Accepted, accept}
 use Rattle.lines.proofs.Valid.{ValidLine, LinesOk}
 use Rattle.lines.proofs.Passes.{Passes}
-use Rattle.lines.proofs.Kept.{else-allowed}
+use Rattle.lines.proofs.Kept.{else-allowed, guide-own}
 use Rattle.lines.proofs.Accepts.{accepts}
 use Rattle.lines.specs.declared.Checked.the-variants.{Fine}
 use Rattle.lines.specs.Answers.{seenIn, checkedAnswer}
 use Rattle.lines.specs.Clean.{Clean}
-use Rattle.lines.proofs.CleanTexts.{seen-clean}
+use Rattle.lines.proofs.CleanTexts.{passes-clean, seen-clean}
 use Rattle.guide.specs.Block.{
   Block,
   empty,
@@ -39,6 +38,7 @@ use Rattle.guide.specs.Block.{
   blockOf,
 }
 use Rattle.guide.proofs.Valid.{BlockOk}
+use Rattle.guide.proofs.Blocks.{blockLines, parse-sound}
 
 -- ---- the ifs that the check has open are those that `parse` finds closed behind, and each block meets the rules
 
@@ -102,16 +102,21 @@ closed (parsed b (f ∷ behind)) h = absurd (h .1)
 
 pub record AcceptedGuide (book : List Text) (a : Accepted) : Type 0 where
   pub matched : parse (a .lines) ≡ parsed (blockOf (a .lines)) []
+  pub printed : blockLines (blockOf (a .lines)) ≡ a .lines
   pub values : BlockOk (blockOf (a .lines))
-  pub phrases : PhrasesOk book [] (a .own)
-  pub few : length (a .own) ≤ 32
+  pub own : a .own ≡ []
 
 pub accepted-guide : (book : List Text) (text : List ℕ) (a : Accepted) → accept aGuide book text ≡ made a → AcceptedGuide book a
 unfolding blockOf
 accepted-guide book text a e =
     let h = accepts aGuide book text a e in
     let block = closed (parse (a .lines)) (parse-ok book 1 nothingSeen (h .seen) (a .lines) (h .valid) (h .passes)) in
-    record { matched = block .0; values = block .1; phrases = h .phrases; few = h .few }
+    record {
+      matched = block .0;
+      printed = parse-sound (a .lines) (blockOf (a .lines)) (h .valid) (passes-clean book 1 nothingSeen (h .seen) (a .lines) (h .passes)) (block .0);
+      values = block .1;
+      own = h .own ∙ guide-own book 1 nothingSeen (h .seen) (a .lines) (h .valid) (h .passes);
+    }
 
 -- no line of a guide that the check accepts is a fault
 pub accepted-clean : (book : List Text) (g : List ℕ) (own instructions : ℕ) → checkedAnswer (seenIn aGuide book g) ≡ Fine own instructions

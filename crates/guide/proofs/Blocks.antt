@@ -1,7 +1,13 @@
--- `parse` reads back the lines that print a block, and gives a block only for the lines that print it.
+-- `parse` reads back the lines that print a block, and of a guide's lines that are no faults it gives a block only for those that print it.
 use mathlib.Core.Path.{_≡_, refl, sym, _∙_, ap, subst}
 use mathlib.Core.List.{List, [], _∷_, _++_, append-assoc, append-nil}
+use mathlib.Core.Bool.{true, false≢true}
+use Rattle.text.specs.Parts.{all}
+use Rattle.text.proofs.Tests.{all-first, all-rest}
+use Rattle.lines.specs.declared.Form.the-variants.{Guide as aGuide}
 use Rattle.lines.specs.Line.{Line, phrase, says, ifLine, elseLine, fiLine, gotoLine, ifSkipLine, faulty}
+use Rattle.lines.specs.Clean.{isClean}
+use Rattle.lines.proofs.Valid.{ValidLine, LinesOk}
 use Rattle.transcript.specs.declared.Test.{Test}
 use Rattle.guide.specs.Block.{
   Block,
@@ -20,7 +26,6 @@ use Rattle.guide.specs.Block.{
   lineThen,
   parse,
 }
-use Rattle.guide.specs.Lines.{bodyLines}
 
 -- the lines of a block
 unfoldable pub blockLines : Block → List Line
@@ -62,7 +67,7 @@ pub parse-blockLines : (b : Block) → parse (blockLines b) ≡ parsed b []
 unfolding parse
 parse-blockLines b = rw append-nil at (parse-then b [] [] refl)
 
--- ---- a parsed list of lines prints its body
+-- ---- a parsed list of lines is printed back
 
 abbrev Prints : Parsed → List Line → Type 0
 Prints unmatched ls = Unit
@@ -82,23 +87,24 @@ else-prints e [] ls h = tt
 else-prints e (fiThen b ∷ behind) ls h = ap (λ (k : List Line). elseLine ∷ k) h
 else-prints e (elseThen o b ∷ behind) ls h = tt
 
-line-prints : (l : Line) (ls : List Line) (p : Parsed) → Prints p (bodyLines ls) → Prints (lineThen l p) (bodyLines (l ∷ ls))
-unfolding blockLines behindLines bodyLines
-line-prints l ls unmatched h = tt
-line-prints (phrase t) ls (parsed b behind) h = h
-line-prints (says x) ls (parsed b behind) h = ap (λ (k : List Line). says x ∷ k) h
-line-prints (ifLine test) ls (parsed b behind) h = if-prints test b behind (bodyLines ls) h
-line-prints elseLine ls (parsed b behind) h = else-prints b behind (bodyLines ls) h
-line-prints fiLine ls (parsed b behind) h = ap (λ (k : List Line). fiLine ∷ k) h
-line-prints (gotoLine k) ls (parsed b behind) h = h
-line-prints (ifSkipLine test k) ls (parsed b behind) h = h
-line-prints (faulty c) ls (parsed b behind) h = h
+line-prints : (l : Line) (ls : List Line) (p : Parsed) → ValidLine aGuide l → isClean l ≡ true → Prints p ls → Prints (lineThen l p) (l ∷ ls)
+unfolding blockLines behindLines
+line-prints l ls unmatched v c h = tt
+line-prints (phrase t) ls (parsed b behind) v c h = absurd (v .ok)
+line-prints (says x) ls (parsed b behind) v c h = ap (λ (k : List Line). says x ∷ k) h
+line-prints (ifLine test) ls (parsed b behind) v c h = if-prints test b behind ls h
+line-prints elseLine ls (parsed b behind) v c h = else-prints b behind ls h
+line-prints fiLine ls (parsed b behind) v c h = ap (λ (k : List Line). fiLine ∷ k) h
+line-prints (gotoLine k) ls (parsed b behind) v c h = absurd (v .ok)
+line-prints (ifSkipLine test k) ls (parsed b behind) v c h = absurd (v .ok)
+line-prints (faulty x) ls (parsed b behind) v c h = absurd (false≢true c)
 
-parse-prints : (ls : List Line) → Prints (parse ls) (bodyLines ls)
-unfolding parse blockLines behindLines bodyLines
-parse-prints [] = refl
-parse-prints (l ∷ ls) = line-prints l ls (parse ls) (parse-prints ls)
+parse-prints : (ls : List Line) → LinesOk aGuide ls → all isClean ls ≡ true → Prints (parse ls) ls
+unfolding parse blockLines behindLines
+parse-prints [] v c = refl
+parse-prints (l ∷ ls) v c =
+    line-prints l ls (parse ls) (v .0) (all-first isClean l ls c) (parse-prints ls (v .1) (all-rest isClean l ls c))
 
-pub parse-sound : (ls : List Line) (b : Block) → parse ls ≡ parsed b [] → blockLines b ≡ bodyLines ls
+pub parse-sound : (ls : List Line) (b : Block) → LinesOk aGuide ls → all isClean ls ≡ true → parse ls ≡ parsed b [] → blockLines b ≡ ls
 unfolding behindLines
-parse-sound ls b e = sym (append-nil (blockLines b)) ∙ subst (λ (p : Parsed). Prints p (bodyLines ls)) e (parse-prints ls)
+parse-sound ls b v c e = sym (append-nil (blockLines b)) ∙ subst (λ (p : Parsed). Prints p ls) e (parse-prints ls v c)

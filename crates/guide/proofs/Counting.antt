@@ -7,9 +7,9 @@ use lib.ListN.{length}
 use lib.Dec.{eqb}
 use Rattle.text.specs.Parts.{split, onFirst, LF}
 use Rattle.lines.specs.declared.Form.the-variants.{Guide as aGuide}
-use Rattle.lines.specs.Line.{Line, linesIn}
+use Rattle.lines.specs.Line.{linesIn}
 use Rattle.lines.specs.Check.{linesOf}
-use Rattle.guide.specs.Lines.{roleOf, inBlock, bodyLines, linesAt}
+use Rattle.guide.specs.Lines.{linesAt}
 
 parts-few : (x : ℕ) (s : List ℕ) → length (split x s) ≤ suc (length s)
 unfolding split
@@ -31,18 +31,9 @@ lines-few ([] ∷ []) = omega arith
 lines-few ((b ∷ p) ∷ []) = omega arith
 lines-few (p ∷ q ∷ ps) = omega (arith, lines-few (q ∷ ps))
 
-body-few : (ls : List Line) → length (bodyLines ls) ≤ length ls
-unfolding bodyLines
-body-few [] = omega arith
-body-few (l ∷ ls) = go (inBlock (roleOf l)) (bodyLines ls) (body-few ls)
-  where
-    go : (v : Bool) (ks : List Line) → length ks ≤ length ls → length {A = Line} (elim v [ true ↦ l ∷ ks | false ↦ ks ]) ≤ suc (length ls)
-    go true ks h = omega arith
-    go false ks h = omega arith
-
 pub all-lines : (g : List ℕ) → length (linesOf aGuide g) ≤ suc (length g)
 all-lines g = omega (arith, lines-few (split LF g), parts-few LF g)
 
 pub few-lines : (g : List ℕ) → length (linesAt g 0) ≤ suc (length g)
 unfolding linesAt
-few-lines g = omega (arith, body-few (linesOf aGuide g), all-lines g)
+few-lines g = all-lines g

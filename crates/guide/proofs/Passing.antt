@@ -11,8 +11,8 @@ use borrow.Author.Tests.{eq-eqb, ne-eqb}
 use Rattle.lines.specs.Line.{Line}
 use Rattle.guide.specs.declared.Role.{Role}
 use Rattle.guide.specs.declared.Role.the-variants.{Statement, If, Else, Fi, Nothing}
-use Rattle.guide.specs.Lines.{roleOf, inBlock, linesAt, firstRole, stops, openBehind, pass, Reads}
-use Rattle.guide.proofs.Reading.{rest-no-more}
+use Rattle.guide.specs.Lines.{roleOf, linesAt, firstRole, stops, openBehind, pass, Reads}
+use Rattle.guide.proofs.Reading.{some-line, rest-no-more}
 
 -- ---- the tests
 
@@ -23,14 +23,6 @@ zero-stops (suc d) = ne-eqb (suc d) 0 (λ e. omega arith)
 pub fi-closes : (d : ℕ) → d - 1 ≡ openBehind Fi d
 fi-closes zero = refl
 fi-closes (suc d) = sub-one (suc d)
-
--- a line at which a block does not end is one of a block
-pub goes-in : (r : Role) (d : ℕ) → stops r d ≡ false → inBlock r ≡ true
-goes-in Statement d h = refl
-goes-in If d h = refl
-goes-in Else d h = refl
-goes-in Fi d h = refl
-goes-in Nothing d h = absurd (true≢false h)
 
 pub open-more : (r : Role) (d : ℕ) → openBehind r d ≤ suc d
 open-more Statement d = omega arith
@@ -71,7 +63,7 @@ module _ (g : List ℕ) (a d : ℕ) (role : Role) (n : ℕ) (r : Reads g a role 
   pass-goes v = go d (linesAt g a) (rw (r .role) at v) ∙ ap (λ (x : Role). pass (openBehind x d) (drop 1 (linesAt g a))) (sym (r .role)) ∙ ap (pass (openBehind role d)) (sym (r .rest))
 
   pub pass-further : stops role d ≡ false → a < n
-  pass-further v = r .further (goes-in role d v)
+  pass-further v = r .further (some-line g a role n r (λ x. stops x d) true≢false v)
 
 -- behind a block that is passed over up to p, and the line where it ends
 pub passed-no-more : (g : List ℕ) (a p : ℕ) (role : Role) (n : ℕ) → linesAt g p ≡ pass 0 (linesAt g a) → Reads g p role n

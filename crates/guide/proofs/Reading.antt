@@ -1,9 +1,9 @@
--- The lines of blocks from a place on: none, the first one, and a line that is of no block.
+-- The lines from a place on: none, or the line at the place and those behind it.
 use Prim.Native.Nat.{ℕ, _+_, _-_, _≤_, _<_}
 use native.Mathlib.Omega.{arith}
 use mathlib.Core.Path.{_≡_, refl, sym, ap, _∙_}
 use mathlib.Core.List.{List, [], _∷_}
-use mathlib.Core.Bool.{true, false, false≢true}
+use mathlib.Core.Bool.{Bool, true, false≢true}
 use lib.ListN.{length, take, drop, getD, length-drop, drop-of-length-le}
 use Rattle.causes.specs.declared.Cause.the-variants.{Byte}
 use Rattle.text.specs.Parts.{split, untilByte, same, all, comma, LF}
@@ -17,12 +17,12 @@ use Rattle.lines.specs.Answers.{headOf}
 use Rattle.lines.specs.declared.Kind.{Kind}
 use Rattle.lines.specs.Words.{kindOf}
 use Rattle.lines.specs.Clean.{isClean, Clean}
-use Rattle.lines.proofs.FieldsRead.{ReadAs, as-fault, as-phrase, as-input, as-inputs, as-print, as-printex, as-if, as-else, as-fi, line-read-as}
+use Rattle.lines.proofs.FieldsRead.{ReadAs, as-fault, as-input, as-inputs, as-print, as-printex, as-if, as-else, as-fi, line-read-as}
 use Rattle.lines.proofs.CleanTexts.{lines-next, clean-behind}
 use Rattle.guide.specs.declared.Role.{Role}
-use Rattle.guide.specs.declared.Role.the-variants.{Statement, If, Else, Fi, Nothing}
+use Rattle.guide.specs.declared.Role.the-variants.{Nothing}
 use Rattle.guide.specs.declared.Here.{Here}
-use Rattle.guide.specs.Lines.{roleOf, roleBy, roleByKind, inBlock, beginsBy, elseBy, bodyLines, linesAt, firstRole, First, Reads, ReadsLine}
+use Rattle.guide.specs.Lines.{roleOf, roleBy, roleByKind, beginsBy, elseBy, linesAt, firstRole, First, Reads, ReadsLine}
 
 -- a line's head has the line's role
 pub role-head : (l : Line) → roleBy (headOf l) ≡ roleOf l
@@ -38,96 +38,76 @@ role-head (gotoLine k) = refl
 role-head (ifSkipLine test k) = refl
 role-head (faulty c) = refl
 
-unended-none : (p : List ℕ) → bodyLines (unended p) ≡ []
-unfolding bodyLines
-unended-none [] = refl
-unended-none (b ∷ p) = refl
-
-pub at-end : (g : List ℕ) (a : ℕ) → length g ≤ a → linesAt g a ≡ []
-unfolding linesAt bodyLines linesIn split
+at-end : (g : List ℕ) (a : ℕ) → length g ≤ a → linesAt g a ≡ []
+unfolding linesAt linesIn split
 at-end g a h = rw (drop-of-length-le g h)
-
--- the line that starts at a ends at e
-module _ (g : List ℕ) (a e : ℕ) (k : e ≡ a + untilByte LF (drop a g)) where
-  no-line : e ≡ length g → linesAt g a ≡ []
-  unfolding linesAt linesIn
-  no-line l = rw (part-last LF g a e k l) (unended-none (take (e - a) (drop a g)))
-
-  -- a line of a block
-  line-in : e < length g → inBlock (roleOf (lineOf aGuide (take (e - a) (drop a g)))) ≡ true
-      → linesAt g a ≡ lineOf aGuide (take (e - a) (drop a g)) ∷ linesAt g (e + 1)
-  unfolding linesAt bodyLines
-  line-in l v = ap bodyLines (lines-next aGuide g a e k l) ∙ rw (v, bodyLines)
-
-  -- a line of no block
-  line-out : e < length g → inBlock (roleOf (lineOf aGuide (take (e - a) (drop a g)))) ≡ false → linesAt g a ≡ linesAt g (e + 1)
-  unfolding linesAt bodyLines
-  line-out l v = ap bodyLines (lines-next aGuide g a e k l) ∙ rw (v, bodyLines)
-
--- ---- what is read from a on, where the lines from b on are the same
 
 end-clean : (g : List ℕ) (e : ℕ) → length g ≤ e → Clean aGuide (drop e g)
 unfolding all linesIn split
 end-clean g e h = rw (drop-of-length-le g h) refl
 
-module _ (g : List ℕ) (a b e : ℕ) (s : linesAt g a ≡ linesAt g b) (i : a ≤ b) (k : e ≡ b + untilByte LF (drop b g)) where
+-- nothing stands behind the last LF where no line is a fault
+unended-none : (p : List ℕ) → all isClean (unended p) ≡ true → unended p ≡ []
+unfolding all
+unended-none [] c = refl
+unended-none (b ∷ p) c = absurd (false≢true c)
+
+-- the line at a ends at e, and no line from a on is a fault
+module _ (g : List ℕ) (a e : ℕ) (k : e ≡ a + untilByte LF (drop a g)) (c : Clean aGuide (drop a g)) where
+  no-line : e ≡ length g → linesAt g a ≡ []
+  unfolding linesAt linesIn
+  no-line l =
+      let p = part-last LF g a e k l in
+      ap (linesIn aGuide) p ∙ unended-none (take (e - a) (drop a g)) (ap (λ (ps : List (List ℕ)). all isClean (linesIn aGuide ps)) (sym p) ∙ c)
+
   pub reads-none : e ≡ length g → Reads g a Nothing e
   reads-none l =
-      let none = s ∙ no-line g b e k l in
+      let none = no-line l in
       record {
         role = sym (ap firstRole none);
         rest = at-end g e (omega arith) ∙ sym (ap (drop 1) none);
         onward = omega arith;
         within = omega arith;
-        further = λ v. absurd (false≢true v);
+        further = λ v. absurd (omega (arith, ap length none));
         clean = end-clean g e (omega arith);
       }
 
-  module _ (r : Role) (w : r ≡ roleOf (lineOf aGuide (take (e - b) (drop b g)))) where
-    line-first : inBlock r ≡ true → e < length g → linesAt g a ≡ lineOf aGuide (take (e - b) (drop b g)) ∷ linesAt g (e + 1)
-    line-first v l = s ∙ line-in g b e k l (ap inBlock (sym w) ∙ v)
+  pub none-line : e ≡ length g → ReadsLine g a (record { role = Nothing; head = Faulty Byte; start = e; end = e; next = e })
+  none-line l = record { reads = reads-none l; first = λ v. absurd (omega (arith, ap length (no-line l))) }
 
-    pub reads-role : inBlock r ≡ true → e < length g → Clean aGuide (drop b g) → Reads g a r (e + 1)
-    reads-role v l c =
-        let f = line-first v l in
+  module _ (l : e < length g) where
+    line-first : linesAt g a ≡ lineOf aGuide (take (e - a) (drop a g)) ∷ linesAt g (e + 1)
+    unfolding linesAt
+    line-first = lines-next aGuide g a e k l
+
+    pub reads-role : (r : Role) → r ≡ roleOf (lineOf aGuide (take (e - a) (drop a g))) → Reads g a r (e + 1)
+    reads-role r w =
         record {
-          role = w ∙ sym (ap firstRole f);
-          rest = sym (ap (drop 1) f);
+          role = w ∙ sym (ap firstRole line-first);
+          rest = sym (ap (drop 1) line-first);
           onward = omega arith;
           within = omega arith;
           further = λ v. omega arith;
-          clean = clean-behind aGuide g b e k l c;
+          clean = clean-behind aGuide g a e k l c;
         }
 
-    pub reads-on : inBlock r ≡ false → e < length g → linesAt g a ≡ linesAt g (e + 1)
-    reads-on v l = s ∙ line-out g b e k l (ap inBlock (sym w) ∙ v)
-
-  module _ (h : Head) (r : Role) (u : h ≡ headOf (lineOf aGuide (take (e - b) (drop b g)))) (w : r ≡ roleBy h) where
-    pub role-is : r ≡ roleOf (lineOf aGuide (take (e - b) (drop b g)))
-    role-is = w ∙ ap roleBy u ∙ role-head (lineOf aGuide (take (e - b) (drop b g)))
-
-    pub reads-line : inBlock r ≡ true → e < length g → Clean aGuide (drop b g)
-        → ReadsLine g a (record { role = r; head = h; start = b; end = e; next = e + 1 })
-    reads-line v l c =
+    pub reads-line : (h : Head) (r : Role) → h ≡ headOf (lineOf aGuide (take (e - a) (drop a g))) → r ≡ roleBy h
+        → ReadsLine g a (record { role = r; head = h; start = a; end = e; next = e + 1 })
+    reads-line h r u w =
+        let role = w ∙ ap roleBy u ∙ role-head (lineOf aGuide (take (e - a) (drop a g))) in
         record {
-          reads = reads-role r role-is v l c;
+          reads = reads-role r role;
           first = λ v. record {
-            lines = line-first r role-is v l;
-            stands = record { head = u; role = role-is; from = omega arith; to = omega arith; within = omega arith };
+            lines = line-first;
+            stands = record { head = u; role = role; from = omega arith; to = omega arith; within = omega arith };
           };
         }
-
--- no line from a on
-pub none-line : (g : List ℕ) (a e : ℕ) → Reads g a Nothing e
-    → ReadsLine g a (record { role = Nothing; head = Faulty Byte; start = e; end = e; next = e })
-none-line g a e r = record { reads = r; first = λ v. absurd (false≢true v) }
 
 -- ---- the role by the kind
 
 read-kind : {fs : List (List ℕ)} {l : Line} → ReadAs aGuide fs l → isClean l ≡ true → roleByKind (kindOf (getD fs 0 [])) ≡ roleOf l
 unfolding kindOf same
 read-kind (as-fault c) v = absurd (false≢true v)
-read-kind (as-phrase h) v = refl
 read-kind (as-input r h) v = refl
 read-kind (as-inputs n r h) v = refl
 read-kind (as-print h) v = refl
@@ -140,40 +120,28 @@ pub role-by-kind : (s : List ℕ) (k : Kind) (r : Role) → isClean (lineOf aGui
     → r ≡ roleByKind k → r ≡ roleOf (lineOf aGuide s)
 role-by-kind s k r c d w = w ∙ ap roleByKind d ∙ read-kind (line-read-as aGuide s) c
 
--- where a statement or an if begins there is a line
-begins-in : (r : Role) → beginsBy r ≡ true → inBlock r ≡ true
-begins-in Statement h = refl
-begins-in If h = refl
-begins-in Else h = absurd (false≢true h)
-begins-in Fi h = absurd (false≢true h)
-begins-in Nothing h = absurd (false≢true h)
-
-pub begins-first : (g : List ℕ) (a : ℕ) (h : Here) → ReadsLine g a h → beginsBy (h .role) ≡ true → First g a h
-begins-first g a h r v = r .first (begins-in (h .role) v)
-
--- and so there is where an `else` stands
-else-in : (r : Role) → elseBy r ≡ true → inBlock r ≡ true
-else-in Statement h = refl
-else-in If h = refl
-else-in Else h = refl
-else-in Fi h = refl
-else-in Nothing h = absurd (false≢true h)
-
 -- ---- the lines behind the one that is read
 
 module _ (g : List ℕ) (a : ℕ) (role : Role) (n : ℕ) (r : Reads g a role n) where
   pub rest-no-more : length (linesAt g n) ≤ length (linesAt g a)
   rest-no-more = omega (arith, ap length (r .rest), length-drop 1 (linesAt g a))
 
-  one-less : inBlock role ≡ true → length (linesAt g n) < length (linesAt g a)
-  one-less v = omega (arith, ap length (r .rest), go (linesAt g a) (ap inBlock (sym (r .role)) ∙ v))
+  -- there is a line where the role is not that of the text's end
+  pub some-line : (p : Role → Bool) {v : Bool} → (p Nothing ≡ v → ⊥) → p role ≡ v → 0 < length (linesAt g a)
+  some-line p {v} n h = go (linesAt g a) (ap p (sym (r .role)) ∙ h)
     where
-      go : (ls : List Line) → inBlock (firstRole ls) ≡ true → length (drop 1 ls) < length ls
-      go [] h = absurd (false≢true h)
+      go : (ls : List Line) → p (firstRole ls) ≡ v → 0 < length ls
+      go [] h = absurd (n h)
       go (l ∷ ls) h = omega arith
 
+  one-less : 0 < length (linesAt g a) → length (linesAt g n) < length (linesAt g a)
+  one-less h = omega (arith, ap length (r .rest), length-drop 1 (linesAt g a))
+
   pub begins-less : beginsBy role ≡ true → length (linesAt g n) < length (linesAt g a)
-  begins-less v = one-less (begins-in role v)
+  begins-less v = one-less (some-line beginsBy false≢true v)
 
   pub else-less : elseBy role ≡ true → length (linesAt g n) < length (linesAt g a)
-  else-less v = one-less (else-in role v)
+  else-less v = one-less (some-line elseBy false≢true v)
+
+pub begins-first : (g : List ℕ) (a : ℕ) (h : Here) → ReadsLine g a h → beginsBy (h .role) ≡ true → First g a h
+begins-first g a h r v = r .first (some-line g a (h .role) (h .next) (r .reads) beginsBy false≢true v)

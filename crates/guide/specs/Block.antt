@@ -41,12 +41,12 @@ elseWith e (elseThen e′ rest ∷ behind) = unmatched
 -- a line, and what the lines behind it are
 abbrev pub lineThen : Line → Parsed → Parsed
 lineThen l unmatched = unmatched
-lineThen (phrase t) (parsed b behind) = parsed b behind
 lineThen (says x) (parsed b behind) = parsed (does x b) behind
 lineThen (ifLine test) (parsed b behind) = ifWith test b behind
 lineThen elseLine (parsed b behind) = elseWith b behind
 lineThen fiLine (parsed b behind) = parsed empty (fiThen b ∷ behind)
 -- no lines of an accepted guide
+lineThen (phrase t) (parsed b behind) = parsed b behind
 lineThen (gotoLine k) (parsed b behind) = parsed b behind
 lineThen (ifSkipLine test k) (parsed b behind) = parsed b behind
 lineThen (faulty c) (parsed b behind) = parsed b behind

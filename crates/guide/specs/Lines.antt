@@ -55,14 +55,6 @@ roleByKind kind.Fi = Fi
 roleByKind kind.Goto = Nothing
 roleByKind kind.Unknown = Nothing
 
--- a line of a block
-abbrev pub inBlock : Role → Bool
-inBlock Statement = true
-inBlock If = true
-inBlock Else = true
-inBlock Fi = true
-inBlock Nothing = false
-
 -- a statement or an if, which begins here
 abbrev pub beginsBy : Role → Bool
 beginsBy Statement = true
@@ -78,14 +70,9 @@ elseBy Else = true
 elseBy Fi = false
 elseBy Nothing = false
 
--- the lines that blocks are made of: all but phrases, and but lines that no accepted guide has
-unfoldable pub bodyLines : List Line → List Line
-bodyLines [] = []
-bodyLines (l ∷ ls) = elim (inBlock (roleOf l)) [ true ↦ l ∷ bodyLines ls | false ↦ bodyLines ls ]
-
--- the lines of blocks from the place a on
+-- the lines from the place a on
 unfoldable pub linesAt : List ℕ → ℕ → List Line
-linesAt g a = bodyLines (linesOf aGuide (drop a g))
+linesAt g a = linesOf aGuide (drop a g)
 
 -- the role of the first line
 abbrev pub firstRole : List Line → Role
@@ -132,21 +119,21 @@ pub record Stands (g : List ℕ) (h : Here) : Type 0 where
   pub to : h .end ≤ length g
   pub within : h .next ≤ length g
 
--- h is the first line of a block from the place a on
+-- h is the line at the place a
 pub record First (g : List ℕ) (a : ℕ) (h : Here) : Type 0 where
   pub lines : linesAt g a ≡ lineOf aGuide (lineText g h) ∷ linesAt g (h .next)
   pub stands : Stands g h
 
--- what a reader of the lines from a on answers: the role of the first one, and the place of the next, from which on no line is a fault
+-- what a reader of the line at the place a answers: its role, and the place of the next, from which on no line is a fault
 pub record Reads (g : List ℕ) (a : ℕ) (r : Role) (n : ℕ) : Type 0 where
   pub role : r ≡ firstRole (linesAt g a)
   pub rest : linesAt g n ≡ drop 1 (linesAt g a)
   pub onward : a ≤ n
   pub within : n ≤ length g
-  pub further : inBlock r ≡ true → a < n
+  pub further : 0 < length (linesAt g a) → a < n
   pub clean : Clean aGuide (drop n g)
 
 -- the same, with the line
 pub record ReadsLine (g : List ℕ) (a : ℕ) (h : Here) : Type 0 where
   pub reads : Reads g a (h .role) (h .next)
-  pub first : inBlock (h .role) ≡ true → First g a h
+  pub first : 0 < length (linesAt g a) → First g a h

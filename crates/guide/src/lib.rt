@@ -1,7 +1,7 @@
 // A guide's blocks, where they stand in its text.
-// specs/Block.antt says which block a list of lines is, specs/Guide.antt what an accepted guide holds, and specs/Lines.antt what the
-// lines of blocks are from a place of the text on. Readers of the line at a place, of its role alone, and of the end of a block that is not
-// walked. No line from the place on is a fault: an accepted guide has none.
+// specs/Block.antt says which block a list of lines is, specs/Guide.antt what an accepted guide is, and specs/Lines.antt what the lines are
+// from a place of the text on. Readers of the line at a place, of its role alone, and of the end of a block that is not walked. No line from
+// the place on is a fault: an accepted guide has none.
 
 mod places;
 mod roles;

@@ -1,8 +1,7 @@
-// The lines of blocks by their place in the guide's text.
+// The lines of a guide by their place in its text.
 use crate::Here;
 use crate::LineRole;
 use crate::Role;
-use crate::roles::in_block;
 use crate::roles::open_behind;
 use crate::roles::role_of;
 use crate::roles::role_of_kind;
@@ -19,35 +18,28 @@ ghost use Rattle.lines.specs.Line.{lineOf};
 ghost use Rattle.lines.specs.Clean.{isClean, Clean};
 ghost use Rattle.guide.specs.Lines.{roleOf, linesAt, pass, Reads, ReadsLine};
 
-// The first line of a block from the place a on: a line that is of no block is passed.
+// The line at the place a.
 pub fn line_at(guide: &[u8], a: usize) -> Here
     requires { ⌜ (a ≤ length (now guide)) × Clean aGuide (drop a (now guide)) ⌝ }
     ensures { λ r. ⌜ ReadsLine (now (guide .entry)) a r ⌝ }
 {
-    let mut start = a;
-    loop {
-        let end = text::find(guide, start, b'\n');
-        if end == guide.len() {
-            return Here {
-                role: Role::Nothing,
-                head: Head::Faulty { cause: Cause::Byte },
-                start: end,
-                end,
-                next: end,
-            };
-        }
-        let head = accepted_lines::accepted_line(Form::Guide, &guide[start..end]);
-        let role = role_of(head);
-        if in_block(role) {
-            return Here {
-                role,
-                head,
-                start,
-                end,
-                next: end + 1,
-            };
-        }
-        start = end + 1;
+    let end = text::find(guide, a, b'\n');
+    if end == guide.len() {
+        return Here {
+            role: Role::Nothing,
+            head: Head::Faulty { cause: Cause::Byte },
+            start: end,
+            end,
+            next: end,
+        };
+    }
+    let head = accepted_lines::accepted_line(Form::Guide, &guide[a..end]);
+    Here {
+        role: role_of(head),
+        head,
+        start: a,
+        end,
+        next: end + 1,
     }
 }
 
@@ -59,28 +51,21 @@ fn role_in(line: &[u8]) -> Role
     role_of_kind(accepted_lines::accepted_kind(line))
 }
 
-// The role of the first line of a block from the place a on.
+// The role of the line at the place a.
 pub fn role_at(guide: &[u8], a: usize) -> LineRole
     requires { ⌜ (a ≤ length (now guide)) × Clean aGuide (drop a (now guide)) ⌝ }
     ensures { λ r. ⌜ Reads (now (guide .entry)) a (r .role) (r .next) ⌝ }
 {
-    let mut start = a;
-    loop {
-        let end = text::find_within(guide, start, b'\n');
-        if end == guide.len() {
-            return LineRole {
-                role: Role::Nothing,
-                next: end,
-            };
-        }
-        let role = role_in(&guide[start..end]);
-        if in_block(role) {
-            return LineRole {
-                role,
-                next: end + 1,
-            };
-        }
-        start = end + 1;
+    let end = text::find_within(guide, a, b'\n');
+    if end == guide.len() {
+        return LineRole {
+            role: Role::Nothing,
+            next: end,
+        };
+    }
+    LineRole {
+        role: role_in(&guide[a..end]),
+        next: end + 1,
     }
 }
 

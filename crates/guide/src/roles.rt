@@ -4,7 +4,7 @@ use lines::Head;
 use lines::Kind;
 ghost use mathlib.Core.Path.{_≡_};
 ghost use Prim.Native.Nat.{_-_, _<_};
-ghost use Rattle.guide.specs.Lines.{roleBy, roleByKind, inBlock, beginsBy, elseBy};
+ghost use Rattle.guide.specs.Lines.{roleBy, roleByKind, beginsBy, elseBy};
 ghost use Rattle.guide.specs.Lines as lines;
 
 pub fn role_of(head: Head) -> Role
@@ -42,19 +42,6 @@ pub fn role_of_kind(kind: Kind) -> Role
         Kind::Fi => Role::Fi,
         Kind::Goto => Role::Nothing,
         Kind::Unknown => Role::Nothing,
-    }
-}
-
-// Whether a line is one of a block.
-pub fn in_block(role: Role) -> bool
-    ensures { λ r. ⌜ r ≡ inBlock role ⌝ }
-{
-    match role {
-        Role::Statement => true,
-        Role::If => true,
-        Role::Else => true,
-        Role::Fi => true,
-        Role::Nothing => false,
     }
 }
 

@@ -84,6 +84,21 @@ pub fn text_head(found: OneText, head: Head) -> Head
     }
 }
 
+// `phrase,TEXT` of a listing; in a guide such a line is 6.
+pub fn read_phrase(form: Form, s: &[u8], a: usize) -> Head
+    ensures { λ r. ⌜ r ≡ headOf (line.textLine (line.phraseLine form) (partsFrom comma a (now (s .entry)))) ⌝ }
+{
+    match form {
+        Form::Guide => text_head(
+            judge_text(s, a),
+            Head::Faulty {
+                cause: Cause::Phrase,
+            },
+        ),
+        Form::Listing => text_head(judge_text(s, a), Head::Phrase),
+    }
+}
+
 // `input,R,TEXT`: with a wrong R, the text still tells a wrong count of fields from a wrong value.
 pub fn read_input(s: &[u8], a: usize) -> Head
     ensures { λ r. ⌜ r ≡ headOf (line.inputLine (partsFrom comma a (now (s .entry)))) ⌝ }

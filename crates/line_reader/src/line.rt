@@ -12,6 +12,7 @@ use crate::fields::read_goto;
 use crate::fields::read_if;
 use crate::fields::read_input;
 use crate::fields::read_inputs;
+use crate::fields::read_phrase;
 use crate::fields::text_head;
 use crate::words::kind_of;
 use causes::Cause;
@@ -19,7 +20,7 @@ use lines::Form;
 use lines::Head;
 use lines::Kind;
 
-// A line, or its cause 3, 4 or 5. Fields that make a line have allowed bytes alone, so that the bytes are judged where they make none.
+// A line, or its cause 3, 4, 5 or, in a guide, 6. Fields that make a line have allowed bytes alone, so that the bytes are judged where they make none.
 pub fn read_line(form: Form, s: &[u8]) -> Head
     ensures { λ r. ⌜ r ≡ headOf (line.lineOf form (now (s .entry))) ⌝ }
 {
@@ -46,7 +47,7 @@ fn read_fields(form: Form, kind: Kind, s: &[u8], a: usize) -> Head
     ensures { λ r. ⌜ r ≡ headOf (lineOfKind form kind (partsFrom comma a (now (s .entry)))) ⌝ }
 {
     match kind {
-        Kind::Phrase => text_head(judge_text(s, a), Head::Phrase),
+        Kind::Phrase => read_phrase(form, s, a),
         Kind::Input => read_input(s, a),
         Kind::Inputs => read_inputs(s, a),
         Kind::Print => text_head(judge_text(s, a), Head::Print),

@@ -8,7 +8,7 @@ use mathlib.Core.Option.{Option, none, some}
 use lib.ListN.{length, getD}
 use lib.Dec.{eqb}
 use Rattle.causes.specs.declared.Cause.{Cause}
-use Rattle.causes.specs.declared.Cause.the-variants.{Byte, Value}
+use Rattle.causes.specs.declared.Cause.the-variants.{Byte, Value, Phrase}
 use Rattle.text.specs.Parts.{comma, split, all}
 use Rattle.text.specs.Text.{Text, allowed, isText}
 use Rattle.decimals.specs.Number.{register, skip}
@@ -19,8 +19,8 @@ use Rattle.lines.specs.declared.Form.the-variants.{Guide, Listing}
 use Rattle.lines.specs.declared.Head.{Head}
 use Rattle.lines.specs.declared.Head.the-variants as head
 use Rattle.lines.specs.declared.Kind.{Kind}
-use Rattle.lines.specs.Line.{Line, says, ifLine, gotoLine, ifSkipLine, faulty, valued, given}
-use Rattle.lines.specs.Line.{textLine, inputLine, optionCount, inputsLine, ifFields, bareLine, gotoFields, fieldsLine, lineOf}
+use Rattle.lines.specs.Line.{Line, phrase, says, ifLine, gotoLine, ifSkipLine, faulty, valued, given}
+use Rattle.lines.specs.Line.{textLine, phraseLine, inputLine, optionCount, inputsLine, ifFields, bareLine, gotoFields, fieldsLine, lineOf}
 use Rattle.lines.specs.Words.{lineOfKind}
 use Rattle.lines.specs.Fields.{testOf}
 use Rattle.lines.specs.Answers.{headOf}
@@ -55,6 +55,17 @@ pub text-clean : (line : Text → Line) {d : Head} → ((t : Text) → headOf (l
 text-clean line h [] c = absurd (false≢true c)
 text-clean line h (t ∷ []) c = sym (h t) ∙ ap headOf (sym (valued-clean (isText t) (line t) c))
 text-clean line h (t ∷ u ∷ fs) c = absurd (false≢true c)
+
+-- a phrase line is no fault in a listing alone
+pub phrase-clean : (form : Form) (fs : List (List ℕ)) → Is (textLine (phraseLine form) fs) → head.Phrase ≡ headOf (textLine (phraseLine form) fs)
+phrase-clean Guide [] c = absurd (false≢true c)
+phrase-clean Guide (t ∷ []) c = go (isText t) c
+  where
+    go : (b : Bool) → Is (valued b (faulty Phrase)) → head.Phrase ≡ headOf (valued b (faulty Phrase))
+    go true d = absurd (false≢true d)
+    go false d = absurd (false≢true d)
+phrase-clean Guide (t ∷ u ∷ fs) c = absurd (false≢true c)
+phrase-clean Listing fs c = text-clean phrase (λ t. refl) fs c
 
 pub input-clean : (fs : List (List ℕ)) → Is (inputLine fs) → headGiven (register (getD fs 0 [])) head.Input ≡ headOf (inputLine fs)
 input-clean [] c = absurd (false≢true c)

@@ -6,7 +6,7 @@ use mathlib.Core.Bool.{Bool, true, false, cond, _&&_}
 use mathlib.Core.Option.{Option, none, some}
 use lib.IntN.{ℤ}
 use Rattle.causes.specs.declared.Cause.{Cause}
-use Rattle.causes.specs.declared.Cause.the-variants.{Byte, Kind, Value}
+use Rattle.causes.specs.declared.Cause.the-variants.{Byte, Kind, Value, Phrase}
 use Rattle.text.specs.Quoted.{bytes}
 use Rattle.text.specs.Parts.{split, join, comma, same, all}
 use Rattle.text.specs.Text.{Text, allowed, textByte, isText}
@@ -20,7 +20,7 @@ use Rattle.transcript.specs.declared.Op.{Op}
 use Rattle.lines.specs.declared.Form.{Form}
 use Rattle.lines.specs.declared.Form.the-variants.{Guide, Listing}
 use Rattle.lines.specs.Line.{Line, phrase, says, ifLine, elseLine, fiLine, gotoLine, ifSkipLine, faulty}
-use Rattle.lines.specs.Line.{valued, given, operator, textLine, inputLine, optionCount, inputsLine, ifFields}
+use Rattle.lines.specs.Line.{valued, given, operator, textLine, phraseLine, inputLine, optionCount, inputsLine, ifFields}
 use Rattle.lines.specs.Line.{bareLine, gotoFields, kindLine, fieldsLine, lineOf}
 
 -- ---- from fields to the line
@@ -38,7 +38,7 @@ fields-read form (w ∷ fs) h =
 -- the fields, and what is known of them, from which a line is read
 pub data ReadAs : Form → List (List ℕ) → Line → Type 0 where
   as-fault : {form : Form} {fs : List (List ℕ)} (c : Cause) → ReadAs form fs (faulty c)
-  as-phrase : {form : Form} {t : Text} → TextOk t → ReadAs form (bytes "phrase" ∷ t ∷ []) (phrase t)
+  as-phrase : {t : Text} → TextOk t → ReadAs Listing (bytes "phrase" ∷ t ∷ []) (phrase t)
   as-input : {form : Form} {r : List ℕ} {t : Text} {n : ℕ} → register r ≡ some n → TextOk t
       → ReadAs form (bytes "input" ∷ r ∷ t ∷ []) (says (input n t))
   as-inputs : {form : Form} {r : List ℕ} {t : Text} {os : List Text} {n : ℕ} → optionCount os ≡ true → register r ≡ some n
@@ -72,6 +72,10 @@ text-as : {form : Form} {w : List ℕ} (line : Text → Line) (fs : List (List �
 text-as line [] h = as-fault Kind
 text-as line (t ∷ []) h = valued-as (isText t) (h t)
 text-as line (t ∷ u ∷ fs) h = as-fault Kind
+
+phrase-as : (form : Form) (t : Text) → TextOk t → ReadAs form (bytes "phrase" ∷ t ∷ []) (phraseLine form t)
+phrase-as Guide t h = as-fault Phrase
+phrase-as Listing t h = as-phrase h
 
 input-as : {form : Form} (fs : List (List ℕ)) → ReadAs form (bytes "input" ∷ fs) (inputLine fs)
 input-as [] = as-fault Kind
@@ -116,7 +120,7 @@ goto-as Listing (k ∷ u ∷ fs) = as-fault Kind
 kind-as : (form : Form) (w : List ℕ) (fs : List (List ℕ)) → ReadAs form (w ∷ fs) (kindLine form w fs)
 unfolding kindLine
 kind-as form w fs =
-    word (bytes "phrase") (text-as phrase fs (λ t. as-phrase))
+    word (bytes "phrase") (text-as (phraseLine form) fs (phrase-as form))
     (word (bytes "input") (input-as fs)
     (word (bytes "inputs") (inputs-as fs)
     (word (bytes "print") (text-as (λ t. says (print t)) fs (λ t. as-print))

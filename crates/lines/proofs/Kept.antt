@@ -1,7 +1,7 @@
 -- What a check that passes has seen meets the rules: good own phrases, at most 32, and at most 512 instructions.
 use Prim.Native.Nat.{ℕ, suc, _<_, _≤_}
 use native.Mathlib.Omega.{arith}
-use mathlib.Core.Path.{_≡_, refl, subst}
+use mathlib.Core.Path.{_≡_, refl, sym, ap, subst, _∙_}
 use mathlib.Core.List.{List, [], _∷_}
 use mathlib.Core.Bool.{Bool, true, false, cond, _&&_}
 use mathlib.Core.Option.{Option, none, some, Option·some-ne-none}
@@ -16,9 +16,10 @@ use Rattle.phrases.specs.Phrases.{isNew}
 use Rattle.phrases.proofs.Valid.{PhrasesOk}
 use Rattle.phrases.proofs.BookValid.{phrases-more}
 use Rattle.lines.specs.declared.Form.{Form}
+use Rattle.lines.specs.declared.Form.the-variants.{Guide}
 use Rattle.lines.specs.Line.{Line, phrase, says, ifLine, elseLine, fiLine, gotoLine, ifSkipLine, faulty}
 use Rattle.lines.specs.Check.{Open, Seen, roomCause, phraseCause, elseCause, causeOf, oneMoreInstruction, turn, next}
-use Rattle.lines.proofs.Valid.{ValidLine, LinesOk}
+use Rattle.lines.proofs.Valid.{ValidLine, phrase-ok, LinesOk}
 use Rattle.lines.proofs.Passes.{Passes}
 
 -- ---- what no cause says
@@ -67,7 +68,7 @@ module _ (form : Form) (book : List Text) where
   line-kept n (phrase t) s v e h =
       let a = phrase-allowed book s t e in
       record {
-        phrases = phrases-more book [] (s .own) t (h .phrases) (v .ok) (a .2);
+        phrases = phrases-more book [] (s .own) t (h .phrases) (phrase-ok form t v) (a .2);
         few = omega (arith, length-append (s .own) (t ∷ []));
         room = h .room;
       }
@@ -83,3 +84,19 @@ module _ (form : Form) (book : List Text) where
   lines-kept n s last [] v p h = subst (Kept book) (p .1) h
   lines-kept n s last (l ∷ ls) v p h =
       lines-kept (suc n) (next n l s) last ls (v .1) (p .1) (line-kept n l s (v .0) (p .0) h)
+
+-- the lines of a guide add no own phrase
+module _ (book : List Text) where
+  line-own : (n : ℕ) (l : Line) (s : Seen) → ValidLine Guide l → next n l s .own ≡ s .own
+  line-own n (phrase t) s v = absurd (v .ok)
+  line-own n (says x) s v = refl
+  line-own n (ifLine t) s v = refl
+  line-own n elseLine s v = refl
+  line-own n fiLine s v = refl
+  line-own n (gotoLine k) s v = refl
+  line-own n (ifSkipLine t k) s v = refl
+  line-own n (faulty c) s v = refl
+
+  pub guide-own : (n : ℕ) (s last : Seen) (ls : List Line) → LinesOk Guide ls → Passes book n s last ls → last .own ≡ s .own
+  guide-own n s last [] v p = ap (λ (t : Seen). t .own) (sym (p .1))
+  guide-own n s last (l ∷ ls) v p = guide-own (suc n) (next n l s) last ls (v .1) (p .1) ∙ line-own n l s (v .0)

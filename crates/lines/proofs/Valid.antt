@@ -1,25 +1,30 @@
 -- A line that is no fault is a line of its form and meets the rules of its values, and so do the lines of a text.
 use Prim.Native.Nat.{ℕ, _<_}
 use native.Mathlib.Omega.{arith}
+use mathlib.Core.Path.{_≡_, refl}
 use mathlib.Core.List.{List, [], _∷_}
 use lib.ListN.{length}
 use Rattle.text.specs.Parts.{all}
-use Rattle.text.specs.Text.{isText}
+use Rattle.text.specs.Text.{Text, isText}
 use Rattle.text.proofs.Tests.{and-parts, in-range}
 use Rattle.decimals.proofs.Decimals.{natural-written}
 use Rattle.decimals.proofs.Constants.{constant-written}
 use Rattle.text.proofs.Valid.{TextOk}
+use Rattle.transcript.specs.Statement.{input, inputs, print, printex}
 use Rattle.transcript.proofs.Valid.{StatementOk, TestOk}
 use Rattle.lines.specs.declared.Form.{Form}
 use Rattle.lines.specs.declared.Form.the-variants.{Guide, Listing}
 use Rattle.lines.specs.Line.{Line, phrase, says, ifLine, elseLine, fiLine, gotoLine, ifSkipLine, faulty}
+use Rattle.lines.specs.declared.Head.the-variants as head
 use Rattle.lines.specs.Line.{lineOf, linesIn}
+use Rattle.lines.specs.Answers.{headOf}
 use Rattle.lines.proofs.FieldsRead.{ReadAs, as-fault, as-phrase, as-input, as-inputs, as-print, as-printex}
 use Rattle.lines.proofs.FieldsRead.{as-if, as-else, as-fi, as-goto, as-if-skip, line-read-as}
 
--- a guide has no `goto` and no if with a skip; a listing has no if without one, no `else` and no `fi`
+-- a guide has no `phrase`, no `goto` and no if with a skip; a listing has no if without one, no `else` and no `fi`
 abbrev pub LineOk : Form → Line → Type 0
-LineOk form (phrase t) = TextOk t
+LineOk Guide (phrase t) = ⊥
+LineOk Listing (phrase t) = TextOk t
 LineOk form (says x) = StatementOk x
 LineOk Guide (ifLine t) = TestOk t
 LineOk Listing (ifLine t) = ⊥
@@ -35,6 +40,10 @@ LineOk form (faulty c) = Unit
 
 pub record ValidLine (form : Form) (l : Line) : Type 0 where
   pub ok : LineOk form l
+
+pub phrase-ok : (form : Form) (t : Text) → ValidLine form (phrase t) → TextOk t
+phrase-ok Guide t v = absurd (v .ok)
+phrase-ok Listing t v = v .ok
 
 read-ok : {form : Form} {fs : List (List ℕ)} {l : Line} → ReadAs form fs l → LineOk form l
 read-ok (as-fault c) = tt
@@ -66,3 +75,25 @@ lines-ok form [] = tt
 lines-ok form ([] ∷ []) = tt
 lines-ok form ((b ∷ s) ∷ []) = (record { ok = tt }, tt)
 lines-ok form (s ∷ t ∷ ss) = (line-valid form s, lines-ok form (t ∷ ss))
+
+-- only a listing has a line whose head is a phrase's
+module _ (form : Form) where
+  head-form : (l : Line) → ValidLine form l → headOf l ≡ head.Phrase → form ≡ Listing
+  head-form (phrase t) v e = go form v
+    where
+      go : (f : Form) → ValidLine f (phrase t) → f ≡ Listing
+      go Guide w = absurd (w .ok)
+      go Listing w = refl
+  head-form (says (input r t)) v e = let z : _≡_ {A = ℕ} 0 1 = cc in absurd (omega arith)
+  head-form (says (inputs r t os)) v e = let z : _≡_ {A = ℕ} 0 1 = cc in absurd (omega arith)
+  head-form (says (print t)) v e = let z : _≡_ {A = ℕ} 0 1 = cc in absurd (omega arith)
+  head-form (says (printex t)) v e = let z : _≡_ {A = ℕ} 0 1 = cc in absurd (omega arith)
+  head-form (ifLine t) v e = let z : _≡_ {A = ℕ} 0 1 = cc in absurd (omega arith)
+  head-form elseLine v e = let z : _≡_ {A = ℕ} 0 1 = cc in absurd (omega arith)
+  head-form fiLine v e = let z : _≡_ {A = ℕ} 0 1 = cc in absurd (omega arith)
+  head-form (gotoLine k) v e = let z : _≡_ {A = ℕ} 0 1 = cc in absurd (omega arith)
+  head-form (ifSkipLine t k) v e = let z : _≡_ {A = ℕ} 0 1 = cc in absurd (omega arith)
+  head-form (faulty c) v e = let z : _≡_ {A = ℕ} 0 1 = cc in absurd (omega arith)
+
+  pub phrase-form : (s : List ℕ) → headOf (lineOf form s) ≡ head.Phrase → form ≡ Listing
+  phrase-form s e = head-form (lineOf form s) (line-valid form s) e

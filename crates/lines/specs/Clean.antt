@@ -1,4 +1,4 @@
--- A line that by itself has none of the causes 3, 4 and 5, and a text of such lines.
+-- A line that by itself has none of the causes 3, 4, 5 and, in a guide, 6; and a text of such lines.
 use Prim.Native.Nat.{ℕ}
 use mathlib.Core.Path.{_≡_}
 use mathlib.Core.List.{List}
@@ -8,7 +8,7 @@ use Rattle.lines.specs.declared.Form.{Form}
 use Rattle.lines.specs.Line.{Line, phrase, says, ifLine, elseLine, fiLine, gotoLine, ifSkipLine, faulty, lineOf}
 use Rattle.lines.specs.Check.{linesOf}
 
--- a line that by itself has none of the causes 3, 4 and 5
+-- a line that by itself has no cause
 abbrev pub isClean : Line → Bool
 isClean (phrase t) = true
 isClean (says x) = true

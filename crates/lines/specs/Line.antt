@@ -6,7 +6,7 @@ use mathlib.Core.Option.{Option, none, some}
 use lib.ListN.{length}
 use lib.Dec.{leb}
 use Rattle.causes.specs.declared.Cause.{Cause}
-use Rattle.causes.specs.declared.Cause.the-variants.{Byte, Kind, Value}
+use Rattle.causes.specs.declared.Cause.the-variants.{Byte, Kind, Value, Phrase}
 use Rattle.text.specs.Quoted.{bytes}
 use Rattle.text.specs.Parts.{split, comma, same, all}
 use Rattle.text.specs.Text.{Text, allowed, isText}
@@ -20,7 +20,7 @@ use Rattle.lines.specs.declared.Form.the-variants.{Guide, Listing}
 
 -- a line of a guide or listing, or its fault
 pub data Line : Type 0 where
-  -- `phrase,TEXT`
+  -- a listing's `phrase,TEXT`
   phrase : Text → Line
   -- `input,..`, `inputs,..`, `print,..`, `printex,..`
   says : Statement → Line
@@ -30,7 +30,7 @@ pub data Line : Type 0 where
   -- a listing's `goto,SKIP` and `if,R,OP,C,SKIP`
   gotoLine : ℕ → Line
   ifSkipLine : Test → ℕ → Line
-  -- a line that by itself has the cause 3, 4 or 5
+  -- a line that by itself has the cause 3, 4 or 5, or in a guide 6
   faulty : Cause → Line
 
 -- "field value outside its rule": 5
@@ -61,6 +61,11 @@ abbrev pub textLine : (Text → Line) → List (List ℕ) → Line
 textLine line [] = faulty Kind
 textLine line (t ∷ []) = valued (isText t) (line t)
 textLine line (t ∷ u ∷ fs) = faulty Kind
+
+-- document 02, h): "A guide with a `phrase` line is now turned down with 6 at that line. Listings keep the kind"
+abbrev pub phraseLine : Form → Text → Line
+phraseLine Guide t = faulty Phrase
+phraseLine Listing t = phrase t
 
 -- `input,R,TEXT`
 abbrev pub inputLine : List (List ℕ) → Line
@@ -117,7 +122,7 @@ gotoFields Listing (k ∷ u ∷ fs) = faulty Kind
 -- the line of a kind's word and the fields behind it; "unknown kind": 4
 unfoldable pub kindLine : Form → List ℕ → List (List ℕ) → Line
 kindLine form w fs =
-    cond (same w (bytes "phrase")) (textLine phrase fs)
+    cond (same w (bytes "phrase")) (textLine (phraseLine form) fs)
     (cond (same w (bytes "input")) (inputLine fs)
     (cond (same w (bytes "inputs")) (inputsLine fs)
     (cond (same w (bytes "print")) (textLine (λ t. says (print t)) fs)

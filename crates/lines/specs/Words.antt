@@ -20,8 +20,8 @@ use Rattle.lines.specs.declared.Kind.the-variants.{
   Goto,
   Unknown,
 }
-use Rattle.lines.specs.Line.{Line, phrase, says, elseLine, fiLine, faulty}
-use Rattle.lines.specs.Line.{textLine, inputLine, inputsLine, ifFields, bareLine, gotoFields}
+use Rattle.lines.specs.Line.{Line, says, elseLine, fiLine, faulty}
+use Rattle.lines.specs.Line.{textLine, phraseLine, inputLine, inputsLine, ifFields, bareLine, gotoFields}
 
 -- the kind that a word names
 unfoldable pub kindOf : List ℕ → Kind
@@ -51,7 +51,7 @@ fieldsAt Unknown = 1
 
 -- the line of a kind and the fields behind its word
 abbrev pub lineOfKind : Form → Kind → List (List ℕ) → Line
-lineOfKind form Phrase fs = textLine phrase fs
+lineOfKind form Phrase fs = textLine (phraseLine form) fs
 lineOfKind form Input fs = inputLine fs
 lineOfKind form Inputs fs = inputsLine fs
 lineOfKind form Print fs = textLine (λ t. says (print t)) fs

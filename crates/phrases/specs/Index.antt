@@ -114,8 +114,8 @@ pub record Indexed (index book : List ℕ) : Type 0 where
   pub whole : behind 0 (bookTexts book) ≡ length book
   pub short : length book < entryPlaces
 
--- a book whose check found no bad line, with its index, and room for 32 numbers behind it
-pub record CheckedBook (index book : List ℕ) : Type 0 where
+-- a book whose check found no bad line, with its index, and room for the numbers of so many own phrases behind it
+pub record CheckedBook (own : ℕ) (index book : List ℕ) : Type 0 where
   pub indexed : Indexed index book
-  pub room : withOwn + length (bookTexts book) ≤ length index
+  pub room : entriesAt + own + length (bookTexts book) ≤ length index
   pub phrases : bookPhrases book ≡ made (bookTexts book)

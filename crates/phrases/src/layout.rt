@@ -8,7 +8,10 @@ pub const ENTRIES_AT: usize = 129;
 
 pub const SECOND_ENTRY_AT: usize = 130;
 
-// An index of any book, and one of no texts, each with room for the numbers of 32 own phrases.
+// An index of any book. One of no texts has no entries.
+pub const BOOK_NUMBERS: usize = 385;
+
+// The same two with room for the numbers of 32 own phrases.
 pub const INDEX_NUMBERS: usize = 417;
 
 pub const EMPTY_INDEX_NUMBERS: usize = 161;

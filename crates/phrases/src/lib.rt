@@ -14,6 +14,7 @@ pub use index::Place;
 pub use index::find_keyed;
 pub use index::key_of;
 pub use index::text_of;
+pub use layout::BOOK_NUMBERS;
 pub use layout::EMPTY_INDEX_NUMBERS;
 pub use layout::ENTRIES_AT;
 pub use layout::ENTRY_KEYS;

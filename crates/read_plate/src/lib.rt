@@ -17,6 +17,7 @@ use phrases::INDEX_NUMBERS;
 use reader::OWN_BYTES;
 use reader::PlateRead;
 ghost use mathlib.Core.Path.{_≡_};
+ghost use Rattle.causes.specs.Limits.{mostOwn};
 ghost use Rattle.causes.specs.Answers.{writtenAnswer};
 ghost use Rattle.output.specs.Pour.{pour};
 ghost use Rattle.phrases.specs.Lookup.{bookTexts};
@@ -32,7 +33,7 @@ fn read_own<'a>(
     own: &'a mut [u8],
     listing: &mut [u8],
 ) -> Written
-    requires { ⌜ CheckedBook (now index) (now book) × OwnRoom (now plate) (now own) ⌝ }
+    requires { ⌜ CheckedBook mostOwn (now index) (now book) × OwnRoom (now plate) (now own) ⌝ }
     ensures { λ r. ⌜ (writtenAnswer r, now (listing .exit)) ≡ readPlateCall (now (plate .entry)) (now (book .entry)) (now (listing .entry)) ⌝ }
     ensures { λ r. ⌜ now (own .exit) ≡ pour 0 (ownLines (ownStored (bookTexts (now (book .entry))) (now (plate .entry)))) (now (own .entry)) ⌝ }
 {
@@ -44,7 +45,7 @@ fn read_own<'a>(
 
 // The listing with a book that is checked. Only a plate with own phrases is given room for them.
 fn read_with<'a>(plate: &[u8], index: &'a mut [u32], book: &'a [u8], listing: &mut [u8]) -> Written
-    requires { ⌜ CheckedBook (now index) (now book) ⌝ }
+    requires { ⌜ CheckedBook mostOwn (now index) (now book) ⌝ }
     ensures { λ r. ⌜ (writtenAnswer r, now (listing .exit)) ≡ readPlateCall (now (plate .entry)) (now (book .entry)) (now (listing .entry)) ⌝ }
 {
     if reader::has_own(plate) {

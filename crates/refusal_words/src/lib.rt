@@ -81,7 +81,7 @@ fn put_cause(out: &mut [u8], at: usize, cause: Cause) -> usize
         byte not allowed, or last line without LF\n\
         unknown kind or wrong count of fields\n\
         field value outside its rule\n\
-        phrase late, 33rd, or repeated\n\
+        phrase in a guide, late, 33rd, or repeated\n\
         else or fi without its if, second else, 17th level, or if left open\n\
         skip past the last instruction\n\
         513th instruction\n\

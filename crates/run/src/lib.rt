@@ -18,6 +18,7 @@ use reader::OWN_BYTES;
 use reader::PlateRead;
 ghost use mathlib.Core.Path.{_≡_};
 ghost use lib.ListN.{length};
+ghost use Rattle.causes.specs.Limits.{mostOwn};
 ghost use Rattle.causes.specs.Answers.{ranAnswer};
 ghost use Rattle.output.specs.Pour.{pour};
 ghost use Rattle.phrases.specs.Lookup.{bookTexts};
@@ -38,7 +39,7 @@ fn run_own<'a>(
     scratch: &mut [u16],
     transcript: &mut [u8],
 ) -> Ran
-    requires { ⌜ CheckedBook (now index) (now book) × OwnRoom (now plate) (now own) ⌝ }
+    requires { ⌜ CheckedBook mostOwn (now index) (now book) × OwnRoom (now plate) (now own) ⌝ }
     ensures { λ r. ⌜ (ranAnswer r, now (transcript .exit)) ≡ runCall (now (plate .entry)) (now (book .entry)) (now (answers .entry)) (length (now (scratch .entry))) (now (transcript .entry)) ⌝ }
     ensures { λ r. ⌜ now (scratch .exit) ≡ now (scratch .entry) ⌝ }
     ensures { λ r. ⌜ now (own .exit) ≡ pour 0 (ownLines (ownStored (bookTexts (now (book .entry))) (now (plate .entry)))) (now (own .entry)) ⌝ }
@@ -66,7 +67,7 @@ fn run_with<'a>(
     scratch: &mut [u16],
     transcript: &mut [u8],
 ) -> Ran
-    requires { ⌜ CheckedBook (now index) (now book) ⌝ }
+    requires { ⌜ CheckedBook mostOwn (now index) (now book) ⌝ }
     ensures { λ r. ⌜ (ranAnswer r, now (transcript .exit)) ≡ runCall (now (plate .entry)) (now (book .entry)) (now (answers .entry)) (length (now (scratch .entry))) (now (transcript .entry)) ⌝ }
     ensures { λ r. ⌜ now (scratch .exit) ≡ now (scratch .entry) ⌝ }
 {

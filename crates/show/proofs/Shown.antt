@@ -24,7 +24,8 @@ use Rattle.plate.proofs.Sized.{sized-made}
 use Rattle.listing.specs.Listing.{listingText}
 use Rattle.listing.specs.Calls.{readListing, readPlateCall}
 use Rattle.listing.proofs.Sizes.{listing-short}
-use Rattle.guide.specs.Guide.{Guide, guideOf}
+use Rattle.guide.specs.Block.{Block}
+use Rattle.guide.specs.Guide.{guideOf}
 use Rattle.translating.specs.Translation.{translateGuide}
 use Rattle.translating.specs.Call.{translation, translateCall}
 use Rattle.agreement.proofs.Valid.{guide-valid}
@@ -37,7 +38,7 @@ unfolding bookPhrases phrasesFrom split
 empty-book = refl
 
 -- the plate of a program of no book
-abbrev plateOf : Guide → Result (List ℕ)
+abbrev plateOf : Block → Result (List ℕ)
 plateOf g = plateSized (plateBytes [] (translateGuide g))
 
 module _ (guide : List ℕ) where
@@ -58,7 +59,7 @@ pub record Refuses (guide : List ℕ) (cause : Cause) (place : ℕ) : Type 0 whe
   pub small : place ≤ 16385
 
 module _ (guide : List ℕ) (cause : Cause) (place : ℕ) where
-  plate-refused : (g : Guide) → guideOf [] guide ≡ made g → plateOf g ≡ refused cause place → Refuses guide cause place
+  plate-refused : (g : Block) → guideOf [] guide ≡ made g → plateOf g ≡ refused cause place → Refuses guide cause place
   unfolding shown
   plate-refused g e f =
       let p = sized (leb (length (plateBytes [] (translateGuide g))) 2953) f in
@@ -72,7 +73,7 @@ module _ (guide : List ℕ) (cause : Cause) (place : ℕ) where
   unfolding shown
   translation-refused e = go (guideOf [] guide) refl (sym (translation-of guide) ∙ e)
     where
-      go : (v : Result Guide) → guideOf [] guide ≡ v → (v >>= plateOf) ≡ refused cause place → Refuses guide cause place
+      go : (v : Result Block) → guideOf [] guide ≡ v → (v >>= plateOf) ≡ refused cause place → Refuses guide cause place
       go (made g) f e = plate-refused g f e
       go (refused c n) f e =
           let same : guideOf [] guide ≡ refused cause place = cc in
@@ -93,7 +94,7 @@ pub record Accepts (guide plate : List ℕ) : Type 0 where
   pub reads : readListing [] plate ≡ made listing
   pub room : length listing ≤ 327680
 
-module _ (guide plate : List ℕ) (g : Guide) (e : guideOf [] guide ≡ made g) (f : plateOf g ≡ made plate) where
+module _ (guide plate : List ℕ) (g : Block) (e : guideOf [] guide ≡ made g) (f : plateOf g ≡ made plate) where
   plate-made : Accepts guide plate
   unfolding shown readListing
   plate-made =

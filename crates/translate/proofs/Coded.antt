@@ -4,15 +4,13 @@ use native.Mathlib.Omega.{arith}
 use mathlib.Core.Path.{_≡_, refl, sym, ap, _∙_}
 use mathlib.Core.List.{List, [], _∷_, _++_, map, map-append, append-assoc, append-nil}
 use mathlib.Core.Bool.{true, false}
-use lib.ListN.{length, drop, getD, length-append, length-map}
+use lib.ListN.{length, drop, length-append, length-map}
 use Rattle.output.specs.Pour.{pour}
 use Rattle.output.proofs.Pour.{pour-fits}
-use Rattle.lines.specs.declared.Form.the-variants.{Guide as aGuide}
-use Rattle.lines.specs.Line.{Line, phrase, says, ifLine, elseLine, fiLine, gotoLine, ifSkipLine, faulty}
-use Rattle.lines.proofs.Valid.{LinesOk}
-use Rattle.guide.specs.Block.{Block, empty, does, ifThen, ifElse, parsed, parse}
-use Rattle.guide.specs.Lines.{firstRole, beginsBy, bodyLines}
-use Rattle.guide.proofs.Blocks.{blockLines, parse-sound}
+use Rattle.lines.specs.Line.{Line, elseLine, fiLine}
+use Rattle.guide.specs.Block.{Block, empty, does, ifThen, ifElse}
+use Rattle.guide.specs.Lines.{firstRole, beginsBy}
+use Rattle.guide.proofs.Blocks.{blockLines}
 use Rattle.plate.specs.Program.{Instruction, statement, goto, ifSkip, skipOf}
 use Rattle.assemble.specs.LineCode.{linesCode}
 use Rattle.translating.specs.Translation.{translateBlock}
@@ -99,30 +97,15 @@ code-block (ifElse test t o b) ks rest =
     (simp (map-append, append-assoc) (code-block t (k ∷ (skips o ++ js)) (elseLine ∷ (blockLines o ++ (fiLine ∷ ls)))
     ∙ ap (λ (is : List Instruction). translateBlock t ++ (goto k ∷ is)) rests))
 
--- ---- the lines of blocks are all that instructions are made of
-
-body-code : (ks : List ℕ) (ls : List Line) → LinesOk aGuide ls → linesCode ks (bodyLines ls) ≡ linesCode ks ls
-unfolding linesCode bodyLines
-body-code ks [] h = refl
-body-code ks (phrase t ∷ ls) h = body-code ks ls (h .1)
-body-code ks (says x ∷ ls) h = ap (λ (is : List Instruction). statement x ∷ is) (body-code (drop 1 ks) ls (h .1))
-body-code ks (ifLine test ∷ ls) h = ap (λ (is : List Instruction). ifSkip test (getD ks 0 0) ∷ is) (body-code (drop 1 ks) ls (h .1))
-body-code ks (elseLine ∷ ls) h = ap (λ (is : List Instruction). goto (getD ks 0 0) ∷ is) (body-code (drop 1 ks) ls (h .1))
-body-code ks (fiLine ∷ ls) h = body-code ks ls (h .1)
-body-code ks (gotoLine k ∷ ls) h = absurd (h .0 .ok)
-body-code ks (ifSkipLine test k ∷ ls) h = absurd (h .0 .ok)
-body-code ks (faulty c ∷ ls) h = body-code ks ls (h .1)
-
--- with a table that has room for the skips
-pub lines-code : (ls : List Line) (b : Block) (table : List ℕ) → LinesOk aGuide ls → parse ls ≡ parsed b [] → length (translateBlock b) ≤ length table
-    → linesCode (pour 0 (blockLength (length (bodyLines ls)) (bodyLines ls) .skips) table) ls ≡ translateBlock b
+-- lines that are those of one block, with a table that has room for the skips
+pub lines-code : (ls : List Line) (b : Block) (table : List ℕ) → blockLines b ≡ ls → length (translateBlock b) ≤ length table
+    → linesCode (pour 0 (blockLength (length ls) ls .skips) table) ls ≡ translateBlock b
 unfolding linesCode
-lines-code ls b table v e k =
-    let p : blockLines b ++ [] ≡ bodyLines ls = append-nil (blockLines b) ∙ parse-sound ls b e in
+lines-code ls b table e k =
+    let p : blockLines b ++ [] ≡ ls = append-nil (blockLines b) ∙ e in
     let counted = ap (λ (x : Extent). x .skips) (count-block b (length (blockLines b ++ [])) [] refl (omega arith)) in
     let room = pour-fits (skips b) table (omega (arith, length-map (translateBlock b) skipOf)) in
-    sym (body-code (pour 0 (blockLength (length (bodyLines ls)) (bodyLines ls) .skips) table) ls v)
-    ∙ ap (λ (ls : List Line). linesCode (pour 0 (blockLength (length ls) ls .skips) table) ls) (sym p)
+    ap (λ (ls : List Line). linesCode (pour 0 (blockLength (length ls) ls .skips) table) ls) (sym p)
     ∙ ap (λ (ks : List ℕ). linesCode ks (blockLines b ++ [])) (ap (λ (ks : List ℕ). pour 0 ks table) counted ∙ room)
     ∙ code-block b (drop (length (skips b)) table) []
     ∙ append-nil (translateBlock b)

@@ -2,13 +2,12 @@
 use Prim.Native.Nat.{ℕ, suc}
 use native.Mathlib.Omega.{arith}
 use mathlib.Core.Path.{_≡_, sym, ap, _∙_}
-use mathlib.Core.List.{List}
+use mathlib.Core.List.{List, []}
 use mathlib.Core.Option.{none}
 use lib.ListN.{length, replicate, length-replicate}
 use Rattle.causes.specs.Answers.{made, refused, Answer, refusing}
 use Rattle.causes.specs.declared.Cause.the-variants.{Book}
 use Rattle.causes.specs.declared.Refusal.{Refusal}
-use Rattle.text.specs.Parts.{split, LF}
 use Rattle.phrases.specs.declared.Book.the-variants.{Bad}
 use Rattle.phrases.specs.Book.{bookPhrases}
 use Rattle.phrases.specs.Lookup.{bookTexts, bookAnswer, ownTexts}
@@ -17,7 +16,6 @@ use Rattle.lines.specs.declared.Form.the-variants.{Guide as aGuide}
 use Rattle.lines.specs.declared.Checked.the-variants.{Fine, Refused}
 use Rattle.lines.specs.Check.{linesOf, Accepted, accept}
 use Rattle.lines.specs.Answers.{seenIn, checkedAnswer}
-use Rattle.lines.proofs.Valid.{lines-ok}
 use Rattle.check_lines.proofs.Answers.{accept-is}
 use Rattle.plate.specs.Program.{Program}
 use Rattle.plate.specs.Writing.{plateBytes, plateSized}
@@ -58,25 +56,24 @@ module _ (g book : List ℕ) where
     accepted = accept-is aGuide g (bookTexts book) f
 
     abbrev program : Program
-    program = programIn aGuide (skipTable g) g own
+    program = programIn aGuide (skipTable g) g 0
 
-    program-is : translateGuide (record { own = ownTexts own g; block = blockOf (linesOf aGuide g) }) ≡ program
-    unfolding translateGuide skipTable linesAt
+    program-is : translateGuide (blockOf (linesOf aGuide g)) ≡ program
+    unfolding translateGuide skipTable linesAt ownTexts
     program-is =
-        let matched = accepted-guide (bookTexts book) g held accepted .matched in
+        let printed = accepted-guide (bookTexts book) g held accepted .printed in
         let room = guide-counted (bookTexts book) g held accepted .room in
         let zeros : List ℕ = replicate 512 0 in
         let size : length zeros ≡ 512 = length-replicate {A = ℕ} 512 0 in
-        let valid = lines-ok aGuide (split LF g) in
-        let code = lines-code (linesOf aGuide g) (blockOf (linesOf aGuide g)) zeros valid matched (omega arith) in
-        λ i. record { own = ownTexts own g; instructions = sym code i }
+        let code = lines-code (linesOf aGuide g) (blockOf (linesOf aGuide g)) zeros printed (omega arith) in
+        λ i. record { own = []; instructions = sym code i }
 
     -- no skip goes past
     none-past : firstPast (suc (length (program .own))) (program .instructions) ≡ none
-    unfolding translateGuide
+    unfolding translateGuide ownTexts
     none-past =
-        ap (λ (p : Program). firstPast (suc (length (ownTexts own g))) (p .instructions)) (sym program-is)
-        ∙ fit-none-past (suc (length (ownTexts own g))) (translateBlock (blockOf (linesOf aGuide g))) (block-fits (blockOf (linesOf aGuide g)))
+        ap (λ (p : Program). firstPast 1 (p .instructions)) (sym program-is)
+        ∙ fit-none-past 1 (translateBlock (blockOf (linesOf aGuide g))) (block-fits (blockOf (linesOf aGuide g)))
 
     translated : bookPhrases book ≡ made (bookTexts book) → translation book g ≡ plateSized (plateBytes (bookTexts book) program)
     unfolding translation guideOf
@@ -96,8 +93,8 @@ module _ (g book : List ℕ) where
 
     pub call-translated : (own instructions : ℕ) (y : Answer × List ℕ) → bookPhrases book ≡ made (bookTexts book)
         → checkedAnswer (seenIn aGuide (bookTexts book) g) ≡ Fine own instructions
-        → y ≡ lentProgram (bookTexts book) (programIn aGuide (skipTable g) g own) out → y ≡ translateCall g book out
+        → y ≡ lentProgram (bookTexts book) (programIn aGuide (skipTable g) g 0) out → y ≡ translateCall g book out
     unfolding translateCall
     call-translated own instructions y e f h =
         rw (translated own instructions f e)
-        (h ∙ lent-within (bookTexts book) (programIn aGuide (skipTable g) g own) out (none-past own instructions f))
+        (h ∙ lent-within (bookTexts book) (programIn aGuide (skipTable g) g 0) out (none-past own instructions f))

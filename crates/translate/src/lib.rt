@@ -14,9 +14,9 @@ use causes::Refusal;
 use causes::Written;
 use lines::Checked;
 use lines::Form;
+use phrases::BOOK_NUMBERS;
 use phrases::Book;
-use phrases::EMPTY_INDEX_NUMBERS;
-use phrases::INDEX_NUMBERS;
+use phrases::ENTRIES_AT;
 ghost use mathlib.Core.Path.{_≡_};
 ghost use Rattle.causes.specs.Answers.{writtenAnswer};
 ghost use Rattle.phrases.specs.Index.{CheckedBook};
@@ -24,14 +24,15 @@ ghost use Rattle.translating.specs.Call.{translateCall};
 
 // The plate with a book that is checked.
 fn translate_with(guide: &[u8], index: &mut [u32], book: &[u8], plate: &mut [u8]) -> Written
-    requires { ⌜ CheckedBook (now index) (now book) ⌝ }
+    requires { ⌜ CheckedBook 0 (now index) (now book) ⌝ }
     ensures { λ r. ⌜ (writtenAnswer r, now (plate .exit)) ≡ translateCall (now (guide .entry)) (now (book .entry)) (now (plate .entry)) ⌝ }
 {
     match check_lines::check(Form::Guide, index, book, guide) {
         Checked::Refused(r) => Written::Refused(r),
-        Checked::Fine { own, instructions } => {
-            passes::write(guide, index, book, own, instructions, plate)
-        }
+        Checked::Fine {
+            own: _,
+            instructions,
+        } => passes::write(guide, index, book, instructions, plate),
     }
 }
 
@@ -40,10 +41,10 @@ pub fn translate(guide: &[u8], book: &[u8], plate: &mut [u8]) -> Written
     ensures { λ r. ⌜ (writtenAnswer r, now (plate .exit)) ≡ translateCall (now (guide .entry)) (now (book .entry)) (now (plate .entry)) ⌝ }
 {
     if book.len() == 0 {
-        let mut index = [0u32; EMPTY_INDEX_NUMBERS];
+        let mut index = [0u32; ENTRIES_AT];
         return translate_with(guide, &mut index, book, plate);
     }
-    let mut index = [0u32; INDEX_NUMBERS];
+    let mut index = [0u32; BOOK_NUMBERS];
     match phrase_check::check_book(book, &mut index) {
         Book::Bad(line) => Written::Refused(Refusal {
             cause: Cause::Book,

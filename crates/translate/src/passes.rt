@@ -15,17 +15,16 @@ ghost use Rattle.assemble.specs.LineCode.{programIn};
 ghost use Rattle.assemble.specs.Assembled.{Counted, lentProgram};
 ghost use Rattle.translate.specs.Lengths.{skipTable};
 
-// First the skips are counted into the table, and then the plate is made, line by line: `own` and `instructions` are what the check counts.
+// First the skips are counted into the table, and then the plate is made, line by line: `instructions` is what the check counts. A guide has no own phrases.
 pub fn write(
     guide: &[u8],
     index: &[u32],
     book: &[u8],
-    own: usize,
     instructions: usize,
     plate: &mut [u8],
 ) -> Written
-    requires { ⌜ (length (now guide) ≤ mostGuideBytes) × Listed (now index) (now book) (now guide) own × Counted aGuide (skipTable (now guide)) (now guide) instructions ⌝ }
-    ensures { λ r. ⌜ (writtenAnswer r, now (plate .exit)) ≡ lentProgram (bookTexts (now (book .entry))) (programIn aGuide (skipTable (now (guide .entry))) (now (guide .entry)) own) (now (plate .entry)) ⌝ }
+    requires { ⌜ (length (now guide) ≤ mostGuideBytes) × Listed (now index) (now book) (now guide) 0 × Counted aGuide (skipTable (now guide)) (now guide) instructions ⌝ }
+    ensures { λ r. ⌜ (writtenAnswer r, now (plate .exit)) ≡ lentProgram (bookTexts (now (book .entry))) (programIn aGuide (skipTable (now (guide .entry))) (now (guide .entry)) 0) (now (plate .entry)) ⌝ }
 {
     let mut skips = [0u16; INSTRUCTIONS];
     block_length(guide, 0, &mut skips, 0);
@@ -35,7 +34,7 @@ pub fn write(
         &skips,
         index,
         book,
-        own,
+        0,
         instructions,
         plate,
     )

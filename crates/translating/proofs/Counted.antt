@@ -29,7 +29,7 @@ use Rattle.guide.specs.Block.{
   parse,
   blockOf,
 }
-use Rattle.guide.specs.Guide.{Guide, guideOf}
+use Rattle.guide.specs.Guide.{guideOf}
 use Rattle.guide.proofs.Accepted.{accepted-guide}
 use Rattle.guide.proofs.Guides.{guide-holds}
 use Rattle.plate.specs.Program.{Instruction, goto}
@@ -107,8 +107,8 @@ guide-counted book text a e =
     record { seen = h .seen; checked = checked; count = omega arith; room = omega (arith, h .room) }
 
 -- "At most 512 instructions"
-pub guide-room : (book : List Text) (text : List ℕ) (g : Guide) → guideOf book text ≡ made g
-    → length (translateGuide g .instructions) ≤ 512
+pub guide-room : (book : List Text) (text : List ℕ) (b : Block) → guideOf book text ≡ made b
+    → length (translateGuide b .instructions) ≤ 512
 unfolding translateGuide
 guide-room book text =
-    guide-holds (λ g. length (translateGuide g .instructions) ≤ 512) book text (λ a e. guide-counted book text a e .room)
+    guide-holds (λ b. length (translateGuide b .instructions) ≤ 512) book text (λ a e. guide-counted book text a e .room)

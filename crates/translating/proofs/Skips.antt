@@ -6,7 +6,7 @@ use mathlib.Core.List.{List, [], _∷_, _++_}
 use lib.ListN.{length, getD, length-append}
 use Rattle.causes.specs.Answers.{made}
 use Rattle.text.specs.Text.{Text}
-use Rattle.guide.specs.Guide.{Guide, guideOf}
+use Rattle.guide.specs.Guide.{guideOf}
 use Rattle.guide.specs.Block.{Block, empty, does, ifThen, ifElse}
 use Rattle.plate.specs.Program.{Instruction, goto, skipOf}
 use Rattle.listing.proofs.Skips.{SkipsFit}
@@ -46,8 +46,8 @@ pub skip-within : (b : Block) (i : ℕ) (d : Instruction) → i < length (transl
 skip-within b = fit-at (translateBlock b) (block-fits b)
 
 -- below 512
-pub skip-fits : (book : List Text) (text : List ℕ) (g : Guide) → guideOf book text ≡ made g
-    → (i : ℕ) (d : Instruction) → i < length (translateGuide g .instructions)
-    → skipOf (getD (translateGuide g .instructions) i d) < 2 ^ 9
+pub skip-fits : (book : List Text) (text : List ℕ) (b : Block) → guideOf book text ≡ made b
+    → (i : ℕ) (d : Instruction) → i < length (translateGuide b .instructions)
+    → skipOf (getD (translateGuide b .instructions) i d) < 2 ^ 9
 unfolding translateGuide
-skip-fits book text g e i d within = omega (arith, guide-room book text g e, skip-within (g .block) i d within)
+skip-fits book text b e i d within = omega (arith, guide-room book text b e, skip-within b i d within)

@@ -11,8 +11,8 @@ use Rattle.translating.specs.Translation.{translateGuide}
 unfoldable pub translation : List ℕ → List ℕ → Result (List ℕ)
 translation book guide = do
   phrases ← bookPhrases book
-  g ← guideOf phrases guide
-  plateSized (plateBytes phrases (translateGuide g))
+  block ← guideOf phrases guide
+  plateSized (plateBytes phrases (translateGuide block))
 
 -- then 11
 unfoldable pub translateCall : List ℕ → List ℕ → List ℕ → Answer × List ℕ

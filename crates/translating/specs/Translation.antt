@@ -3,7 +3,6 @@ use Prim.Native.Nat.{suc}
 use mathlib.Core.List.{List, [], _∷_, _++_}
 use lib.ListN.{length}
 use Rattle.guide.specs.Block.{Block, empty, does, ifThen, ifElse}
-use Rattle.guide.specs.Guide.{Guide}
 use Rattle.plate.specs.Program.{Instruction, statement, goto, ifSkip, Program}
 
 -- "Each `input`, `inputs`, `print` and `printex` becomes the instruction of its name, in the guide's order"
@@ -18,6 +17,6 @@ translateBlock (ifElse test t e rest) =
     ifSkip test (suc (length (translateBlock t)))
     ∷ (translateBlock t ++ (goto (length (translateBlock e)) ∷ (translateBlock e ++ translateBlock rest)))
 
--- "The phrases go first"
-unfoldable pub translateGuide : Guide → Program
-translateGuide g = record { own = g .own; instructions = translateBlock (g .block) }
+-- the program of a guide, which has no own phrases (document 02, h)
+unfoldable pub translateGuide : Block → Program
+translateGuide b = record { own = []; instructions = translateBlock b }

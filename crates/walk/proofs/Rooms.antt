@@ -1,12 +1,12 @@
--- The walk of a guide writes no more bytes than the guide has behind its own phrases less 4 for each instruction, and 14 for each answer:
--- the line that a statement writes is at least 4 bytes shorter than its line of the guide, of which none is walked twice, the line of an if
--- or an `else` has more than 4 bytes, and an A line has at most 14.
-use Prim.Native.Nat.{ℕ, zero, suc, _+_, _*_, _-_, _≤_, _<_}
+-- The walk of a guide writes no more bytes than the guide has less 4 for each instruction, and 14 for each answer: the line that a
+-- statement writes is at least 4 bytes shorter than its line of the guide, of which none is walked twice, the line of an if or an `else` has
+-- more than 4 bytes, and an A line has at most 14.
+use Prim.Native.Nat.{ℕ, zero, suc, _+_, _*_, _≤_, _<_}
 use native.Mathlib.Omega.{arith}
 use mathlib.Core.Path.{_≡_, sym, ap, _∙_}
 use mathlib.Core.List.{List, [], _∷_}
 use mathlib.Core.Bool.{Bool, true, false}
-use lib.ListN.{length, drop, length-append, length-drop}
+use lib.ListN.{length, drop, length-append}
 use lib.IntN.{ℤ}
 use Rattle.causes.specs.Answers.{made, Answer, lent}
 use Rattle.causes.specs.Answers as answer
@@ -23,13 +23,10 @@ use Rattle.statements.proofs.Performs.{firstLine}
 use Rattle.statements.proofs.Rooms.{stateRoom, perform-room, answers-room}
 use Rattle.machine.proofs.Follow.{lay-bytes}
 use Rattle.machine.proofs.Passes.{whole}
-use Rattle.lines.specs.declared.Form.{Form}
 use Rattle.lines.specs.declared.Form.the-variants.{Guide as aGuide}
 use Rattle.lines.specs.Line.{Line, phrase, says, ifLine, elseLine, fiLine, gotoLine, ifSkipLine, faulty, lineOf, linesIn}
-use Rattle.lines.specs.Check.{linesOf}
-use Rattle.lines.proofs.FieldsRead.{ReadAs, as-fault, as-phrase, as-input, as-inputs, as-print, as-printex}
-use Rattle.lines.proofs.FieldsRead.{as-if, as-else, as-fi, as-goto, as-if-skip, line-read-as}
-use Rattle.guide.specs.Lines.{roleOf, inBlock, beginsBy, firstRole, stops, openBehind, pass, bodyLines, linesAt}
+use Rattle.lines.proofs.FieldsRead.{ReadAs, as-fault, as-input, as-inputs, as-print, as-printex, as-if, as-else, as-fi, line-read-as}
+use Rattle.guide.specs.Lines.{roleOf, beginsBy, firstRole, stops, openBehind, pass, linesAt}
 use Rattle.walk_blocks.specs.Descend.{Walker, here, follow, next, atElse, behindTrue, leaveTrue, leaveElse, elseBlock, walkIf}
 use Rattle.machine.specs.Ranged.{Ranged}
 use Rattle.walk_blocks.specs.Descend.{statementWith, blockWith, descend, walkText}
@@ -141,10 +138,9 @@ descend-within (suc n) s ls = go (beginsBy (firstRole ls)) (descend-within n)
 
 -- ---- the lines of a guide
 
-read-room : {form : Form} {fs : List (List ℕ)} {l : Line} → ReadAs form fs l → lineSize l ≤ suc (length (join comma fs))
+read-room : {fs : List (List ℕ)} {l : Line} → ReadAs aGuide fs l → lineSize l ≤ suc (length (join comma fs))
 unfolding join lineBytes
 read-room (as-fault c) = omega arith
-read-room (as-phrase h) = omega arith
 read-room (as-input r h) = simp length-append (omega arith)
 read-room (as-inputs n r h) = simp length-append (omega arith)
 read-room (as-print h) = simp length-append (omega arith)
@@ -152,8 +148,6 @@ read-room (as-printex h) = simp length-append (omega arith)
 read-room (as-if r o c) = omega arith
 read-room as-else = omega arith
 read-room as-fi = omega arith
-read-room (as-goto k) = omega arith
-read-room (as-if-skip r o c k) = omega arith
 
 line-room : (t : List ℕ) → lineSize (lineOf aGuide t) ≤ suc (length t)
 line-room t = rw join-split at (read-room (line-read-as aGuide t))
@@ -165,35 +159,24 @@ parts-room ([] ∷ []) = omega arith
 parts-room ((b ∷ p) ∷ []) = omega arith
 parts-room (p ∷ q ∷ ps) = simp length-append (omega (arith, line-room p, parts-room (q ∷ ps)))
 
-body-room : (ls : List Line) → linesSize (bodyLines ls) ≤ linesSize ls
-unfolding bodyLines
-body-room [] = omega arith
-body-room (l ∷ ls) = go (inBlock (roleOf l)) (body-room ls)
-  where
-    go : (v : Bool) → linesSize (bodyLines ls) ≤ linesSize ls
-        → linesSize (elim v [ true ↦ l ∷ bodyLines ls | false ↦ bodyLines ls ]) ≤ linesSize (l ∷ ls)
-    go true h = omega arith
-    go false h = omega arith
-
-guide-room : (g : List ℕ) (a : ℕ) → linesSize (linesAt g a) ≤ length (drop a g)
+guide-room : (g : List ℕ) → linesSize (linesAt g 0) ≤ length g
 unfolding linesAt
-guide-room g a = omega (arith, body-room (linesOf aGuide (drop a g)), parts-room (split LF (drop a g)), ap length (join-split LF (drop a g)))
+guide-room g = omega (arith, parts-room (split LF g), ap length (join-split LF g))
 
 -- ---- the whole walk
 
-text-room : (g : List ℕ) (from : ℕ) (answers : List ℤ) → linesAt g 0 ≡ linesAt g from → Ranged answers
-    → length (transcriptBytes (stateOf (walkText g answers) .transcript)) + 4 * linesCount (linesAt g 0) ≤ (length g - from) + 14 * length answers
+text-room : (g : List ℕ) (answers : List ℤ) → Ranged answers
+    → length (transcriptBytes (stateOf (walkText g answers) .transcript)) + 4 * linesCount (linesAt g 0) ≤ length g + 14 * length answers
 unfolding walkText start transcriptBytes
-text-room g from answers s h =
-    omega (arith, descend-within (length (linesAt g 0)) (start answers) (linesAt g 0), ap linesSize s, guide-room g from, length-drop from g, answers-room answers h)
+text-room g answers h =
+    omega (arith, descend-within (length (linesAt g 0)) (start answers) (linesAt g 0), guide-room g, answers-room answers h)
 
 module _ (g : List ℕ) (answers rs : List ℤ) (p : Performed) (o out : List ℕ) (e : performed rs answers p o ≡ laid 0 (walkText g answers) out) where
   -- a buffer of so many bytes takes it
-  pub text-fits : (own n from : ℕ) → Counted g own n → linesAt g 0 ≡ linesAt g from → Ranged answers
-      → (length g - from) + 14 * length answers ≤ length out + 4 * n → p .end ≤ length out
-  text-fits own n from c s h l =
+  pub text-fits : (n : ℕ) → Counted g n → Ranged answers → length g + 14 * length answers ≤ length out + 4 * n → p .end ≤ length out
+  text-fits n c h l =
       let new = transcriptBytes (stateOf (walkText g answers) .transcript) in
-      omega (arith, ended 0 new out (p .end) o (lay-bytes rs answers p o 0 (walkText g answers) out e), text-room g from answers s h, guide-counted g own n c)
+      omega (arith, ended 0 new out (p .end) o (lay-bytes rs answers p o 0 (walkText g answers) out e), text-room g answers h, guide-counted g n c)
 
   -- it ends in every buffer at the same place
   pub text-ends : (us : List ℤ) (q : Performed) (new old : List ℕ) → performed us answers q new ≡ laid 0 (walkText g answers) old → p .end ≡ q .end

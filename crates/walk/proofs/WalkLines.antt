@@ -10,9 +10,9 @@ use Rattle.transcript.specs.Perform.{Ending, goesOn, verdict, waits, outside, a
 use Rattle.lines.specs.Line.{Line, elseLine, fiLine}
 use Rattle.guide.specs.declared.Role.{Role}
 use Rattle.guide.specs.declared.Role.the-variants.{Statement, If, Else, Fi, Nothing}
-use Rattle.guide.specs.Block.{Block, empty, does, ifThen, ifElse, parsed, parse}
-use Rattle.guide.specs.Lines.{firstRole, beginsBy, stops, pass, bodyLines}
-use Rattle.guide.proofs.Blocks.{blockLines, parse-sound}
+use Rattle.guide.specs.Block.{Block, empty, does, ifThen, ifElse}
+use Rattle.guide.specs.Lines.{firstRole, beginsBy, stops, pass}
+use Rattle.guide.proofs.Blocks.{blockLines}
 use Rattle.walking.specs.Walk.{walk, leave}
 use Rattle.walk_blocks.specs.Descend.{Left, Walker, here, follow, next, atElse, leaveTrue, leaveElse, elseBlock, walkIf, statementWith, blockWith, descend}
 use Rattle.walk_blocks.proofs.Leaving.{follow-here}
@@ -141,11 +141,10 @@ walk-block (ifElse test t o b) (suc n) s rest c l =
     (pass-block t 0 (elseLine ∷ os))
     (pass-block o 0 (fiLine ∷ ls))
 
--- lines that make one block
-pub walk-lines : (ls : List Line) (b : Block) (s : State) → parse ls ≡ parsed b []
-    → descend (length (bodyLines ls)) s (bodyLines ls) .ending ≡ walk b s
+-- lines that are those of one block
+pub walk-lines : (ls : List Line) (b : Block) (s : State) → blockLines b ≡ ls → descend (length ls) s ls .ending ≡ walk b s
 walk-lines ls b s e =
-    let p : blockLines b ++ [] ≡ bodyLines ls = append-nil (blockLines b) ∙ parse-sound ls b e in
+    let p : blockLines b ++ [] ≡ ls = append-nil (blockLines b) ∙ e in
     ap (λ (k : List Line). descend (length k) s k .ending) (sym p)
     ∙ ap (λ (w : Left). w .ending) (walk-block b (length (blockLines b ++ [])) s [] refl (omega arith))
     ∙ sym (follow-here (walk b s) [])

@@ -18,7 +18,6 @@ use Rattle.transcript.specs.Perform.{Ending, report}
 use Rattle.transcript.specs.Machine.{machineState, laid, performed}
 use Rattle.lines.specs.declared.Form.the-variants.{Guide as aGuide}
 use Rattle.lines.specs.declared.Checked.the-variants.{Fine, Refused}
-use Rattle.lines.specs.Line.{Line}
 use Rattle.lines.specs.Check.{linesOf}
 use Rattle.lines.specs.Answers.{seenIn, checkedAnswer}
 use Rattle.check_lines.proofs.Answers.{accept-is}
@@ -34,15 +33,13 @@ use Rattle.walk.proofs.WalkLines.{walk-lines}
 
 -- ---- the walk over the lines, from the start
 
-pub text-laid : (g : List ℕ) (from : ℕ) (answers rs : List ℤ) (m : Machine) (w : Walked) (us : List ℤ) (o out : List ℕ)
-    → LeavesFrom g from answers w us o 0 (λ n. descend n (machineState rs answers m) (linesAt g from)) out
-    → linesAt g 0 ≡ linesAt g from → machineState rs answers m ≡ start answers
+pub text-laid : (g : List ℕ) (answers rs : List ℤ) (m : Machine) (w : Walked) (us : List ℤ) (o out : List ℕ)
+    → LeavesFrom g 0 answers w us o 0 (λ n. descend n (machineState rs answers m) (linesAt g 0)) out → machineState rs answers m ≡ start answers
     → performed us answers (w .left) o ≡ laid 0 (walkText g answers) out
 unfolding walkText
-text-laid g from answers rs m w us o out f s e =
-    f (length (linesAt g from)) (omega arith) .left
-    ∙ ap (λ (s : State). laid 0 (descend (length (linesAt g from)) s (linesAt g from) .ending) out) e
-    ∙ ap (λ (ls : List Line). laid 0 (descend (length ls) (start answers) ls .ending) out) (sym s)
+text-laid g answers rs m w us o out f e =
+    f (length (linesAt g 0)) (omega arith) .left
+    ∙ ap (λ (s : State). laid 0 (descend (length (linesAt g 0)) s (linesAt g 0) .ending) out) e
 
 -- ---- the book and the guide
 
@@ -62,10 +59,10 @@ module _ (g book : List ℕ) (answers : List ℤ) where
   unfolding walked guideOf walkText linesAt
   text-walked n i k e f =
       let accepted = accept-is aGuide g (bookTexts book) f in
-      let matched = accepted-guide (bookTexts book) g _ accepted .matched in
+      let printed = accepted-guide (bookTexts book) g _ accepted .printed in
       rw (book-is book e, accepted)
       (ap (λ (w : Ending). made (report w))
-      (sym (walk-lines (linesOf aGuide g) (blockOf (linesOf aGuide g)) (start answers) matched)))
+      (sym (walk-lines (linesOf aGuide g) (blockOf (linesOf aGuide g)) (start answers) printed)))
 
   -- ---- what the call leaves
 

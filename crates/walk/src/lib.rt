@@ -10,8 +10,8 @@ use causes::Ran;
 use causes::Refusal;
 use lines::Checked;
 use lines::Form;
+use phrases::BOOK_NUMBERS;
 use phrases::Book;
-use phrases::INDEX_NUMBERS;
 ghost use mathlib.Core.Path.{_≡_};
 ghost use Rattle.causes.specs.Answers.{ranAnswer};
 ghost use Rattle.walking.specs.Call.{walkCall};
@@ -20,7 +20,7 @@ ghost use Rattle.walking.specs.Call.{walkCall};
 pub fn walk(guide: &[u8], book: &[u8], answers: &[i32], transcript: &mut [u8]) -> Ran
     ensures { λ r. ⌜ (ranAnswer r, now (transcript .exit)) ≡ walkCall (now (guide .entry)) (now (book .entry)) (now (answers .entry)) (now (transcript .entry)) ⌝ }
 {
-    let mut index = [0u32; INDEX_NUMBERS];
+    let mut index = [0u32; BOOK_NUMBERS];
     match phrase_check::check_book(book, &mut index) {
         Book::Bad(line) => Ran::Refused(Refusal {
             cause: Cause::Book,
@@ -28,13 +28,10 @@ pub fn walk(guide: &[u8], book: &[u8], answers: &[i32], transcript: &mut [u8]) -
         }),
         Book::Holds(_) => match check_lines::check(Form::Guide, &mut index, book, guide) {
             Checked::Refused(r) => Ran::Refused(r),
-            Checked::Fine { own, instructions } => passes::write(
-                guide,
-                own,
+            Checked::Fine {
+                own: _,
                 instructions,
-                answers,
-                transcript,
-            ),
+            } => passes::write(guide, instructions, answers, transcript),
         },
     }
 }

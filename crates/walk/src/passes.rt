@@ -2,14 +2,12 @@
 use causes::Cause;
 use causes::Ran;
 use causes::Refusal;
-use lines::Kind;
 use transcript::Performed;
 use walk_blocks::block;
 ghost use mathlib.Core.Path.{_≡_};
 ghost use mathlib.Core.List.{List};
 ghost use lib.IntN.{ℤ};
-ghost use Prim.Native.Nat.{_≤_};
-ghost use lib.ListN.{length, drop};
+ghost use Prim.Native.Nat.{ℕ};
 ghost use Rattle.causes.specs.Answers.{made, lent, ranAnswer};
 ghost use Rattle.transcript.specs.Perform.{report};
 ghost use Rattle.transcript.specs.Machine.{laid, performed};
@@ -18,75 +16,37 @@ ghost use Rattle.lines.specs.Clean.{Clean};
 ghost use Rattle.lines.specs.declared.Checked.the-variants.{Fine};
 ghost use Rattle.lines.specs.Answers.{seenIn, checkedAnswer};
 ghost use Rattle.text.specs.Text.{Text};
-ghost use Rattle.guide.specs.Lines.{linesAt};
 ghost use Rattle.walk_blocks.specs.Descend.{walkText};
 
-// Where the lines of blocks begin: behind the own phrases, of which there are so many.
-fn behind_phrases(guide: &[u8], own: usize) -> usize
+// The walk over a guide's lines, with registers that are all 0 at first: the buffer takes as much of the transcript as it has room for.
+fn produce(guide: &[u8], answers: &[i32], out: &mut [u8]) -> Performed
     requires { ⌜ Clean aGuide (now guide) ⌝ }
-    ensures { λ r. ⌜ (linesAt (now (guide .entry)) 0 ≡ linesAt (now (guide .entry)) r) × (r ≤ length (now (guide .entry))) × Clean aGuide (drop r (now (guide .entry))) ⌝ }
-{
-    if own == 0 {
-        return 0;
-    }
-    let mut from = 0;
-    loop {
-        let end = text::find(guide, from, b'\n');
-        if end == guide.len() {
-            return from;
-        }
-        match accepted_lines::accepted_kind(&guide[from..end]) {
-            Kind::Phrase => from = end + 1,
-            _ => return from,
-        }
-    }
-}
-
-// The walk over a guide's lines, which begin at `from`, with registers that are all 0 at first: the buffer takes as much of the transcript as
-// it has room for.
-fn produce(guide: &[u8], from: usize, answers: &[i32], out: &mut [u8]) -> Performed
-    requires { ⌜ (linesAt (now guide) 0 ≡ linesAt (now guide) from) × (from ≤ length (now guide)) × Clean aGuide (drop from (now guide)) ⌝ }
     ensures { λ r. ⌜ ((registers : List ℤ) × (performed registers (now (answers .entry)) r (now (out .exit)) ≡ laid 0 (walkText (now (guide .entry)) (now (answers .entry))) (now (out .entry)))) ⌝ }
 {
     let mut registers = [0i32; 32];
-    let w = block(
-        guide,
-        answers,
-        &mut registers,
-        out,
-        from,
-        0,
-        machine::fresh(),
-    );
+    let w = block(guide, answers, &mut registers, out, 0, 0, machine::fresh());
     w.left
 }
 
-// The walk of a guide that the check accepts, with so many own phrases and instructions. A buffer as long as the guide behind its own
-// phrases, with 4 bytes less for each instruction and 14 more for each answer, takes any transcript. Else the walk is made on no buffer first,
-// to learn the transcript's length; then 11, or the transcript is written.
-pub fn write(
-    guide: &[u8],
-    own: usize,
-    instructions: usize,
-    answers: &[i32],
-    transcript: &mut [u8],
-) -> Ran
-    requires { ⌜ ((book : List Text) × (checkedAnswer (seenIn aGuide book (now guide)) ≡ Fine own instructions)) ⌝ }
+// The walk of a guide that the check accepts, with so many instructions. A buffer as long as the guide, with 4 bytes less for each
+// instruction and 14 more for each answer, takes any transcript. Else the walk is made on no buffer first, to learn the transcript's length;
+// then 11, or the transcript is written.
+pub fn write(guide: &[u8], instructions: usize, answers: &[i32], transcript: &mut [u8]) -> Ran
+    requires { ⌜ ((book : List Text) × (own : ℕ) × (checkedAnswer (seenIn aGuide book (now guide)) ≡ Fine own instructions)) ⌝ }
     ensures { λ r. ⌜ (ranAnswer r, now (transcript .exit)) ≡ lent (made (report (walkText (now (guide .entry)) (now (answers .entry))))) (now (transcript .entry)) ⌝ }
 {
-    let from = behind_phrases(guide, own);
     if answers.len() <= 65536 {
-        if guide.len() - from + 14 * answers.len() <= transcript.len() + 4 * instructions {
+        if guide.len() + 14 * answers.len() <= transcript.len() + 4 * instructions {
             machine::see_answers(answers);
-            return machine::report_of(produce(guide, from, answers, transcript));
+            return machine::report_of(produce(guide, answers, transcript));
         }
     }
-    let length = produce(guide, from, answers, &mut []).end;
+    let length = produce(guide, answers, &mut []).end;
     if transcript.len() < length {
         return Ran::Refused(Refusal {
             cause: Cause::TooShort,
             place: 0,
         });
     }
-    machine::report_of(produce(guide, from, answers, transcript))
+    machine::report_of(produce(guide, answers, transcript))
 }

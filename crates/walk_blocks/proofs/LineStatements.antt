@@ -14,14 +14,12 @@ use Rattle.transcript.specs.Statement.{Statement, input, inputs, print, printex
 use Rattle.transcript.specs.State.{State, step}
 use Rattle.transcript.specs.Perform.{perform, holds}
 use Rattle.transcript.proofs.Valid.{StatementOk, TestOk}
-use Rattle.lines.specs.declared.Form.{Form}
 use Rattle.lines.specs.declared.Form.the-variants.{Guide as aGuide}
 use Rattle.lines.specs.declared.Head.{Head}
 use Rattle.lines.specs.declared.Head.the-variants as head
 use Rattle.lines.specs.Line.{Line, phrase, says, ifLine, elseLine, fiLine, gotoLine, ifSkipLine, faulty, lineOf}
 use Rattle.lines.specs.Answers.{headOf}
-use Rattle.lines.proofs.FieldsRead.{ReadAs, as-fault, as-phrase, as-input, as-inputs, as-print, as-printex}
-use Rattle.lines.proofs.FieldsRead.{as-if, as-else, as-fi, as-goto, as-if-skip, line-read-as}
+use Rattle.lines.proofs.FieldsRead.{ReadAs, as-fault, as-input, as-inputs, as-print, as-printex, as-if, as-else, as-fi, line-read-as}
 use Rattle.lines.proofs.Valid.{LineOk, line-valid}
 use Rattle.guide.specs.Lines.{roleOf, beginsBy}
 use Rattle.walk_blocks.specs.Descend.{Walker, here, follow, walkIf, statementWith}
@@ -42,9 +40,8 @@ Fields (gotoLine k) fs = Unit
 Fields (ifSkipLine test k) fs = Unit
 Fields (faulty c) fs = Unit
 
-read-fields : {form : Form} {fs : List (List ℕ)} {l : Line} → ReadAs form fs l → Fields l fs
+read-fields : {fs : List (List ℕ)} {l : Line} → ReadAs aGuide fs l → Fields l fs
 read-fields (as-fault c) = tt
-read-fields (as-phrase h) = tt
 read-fields (as-input r h) = refl
 read-fields (as-inputs n r h) = (refl, refl)
 read-fields (as-print h) = refl
@@ -52,8 +49,6 @@ read-fields (as-printex h) = refl
 read-fields (as-if r o c) = tt
 read-fields as-else = tt
 read-fields as-fi = tt
-read-fields (as-goto k) = tt
-read-fields (as-if-skip r o c k) = tt
 
 same-statement : (x : Statement) (fs : List (List ℕ)) → Fields (says x) fs → x ≡ statementBy (headOf (says x)) fs
 same-statement (input r t) fs e = rw e

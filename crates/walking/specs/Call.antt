@@ -13,8 +13,8 @@ use Rattle.walking.specs.Walk.{walk}
 unfoldable pub walked : List ℕ → List ℕ → List ℤ → Result Output
 walked book guide answers = do
   phrases ← bookPhrases book
-  g ← guideOf phrases guide
-  made (report (walk (g .block) (start answers)))
+  block ← guideOf phrases guide
+  made (report (walk block (start answers)))
 
 -- then 11
 unfoldable pub walkCall : List ℕ → List ℕ → List ℤ → List ℕ → Answer × List ℕ

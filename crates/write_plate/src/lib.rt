@@ -11,13 +11,14 @@ use phrases::Book;
 use phrases::EMPTY_INDEX_NUMBERS;
 use phrases::INDEX_NUMBERS;
 ghost use mathlib.Core.Path.{_≡_};
+ghost use Rattle.causes.specs.Limits.{mostOwn};
 ghost use Rattle.causes.specs.Answers.{writtenAnswer};
 ghost use Rattle.phrases.specs.Index.{CheckedBook};
 ghost use Rattle.listing.specs.Calls.{writePlateCall};
 
 // The plate with a book that is checked.
 fn write_with(listing: &[u8], index: &mut [u32], book: &[u8], plate: &mut [u8]) -> Written
-    requires { ⌜ CheckedBook (now index) (now book) ⌝ }
+    requires { ⌜ CheckedBook mostOwn (now index) (now book) ⌝ }
     ensures { λ r. ⌜ (writtenAnswer r, now (plate .exit)) ≡ writePlateCall (now (listing .entry)) (now (book .entry)) (now (plate .entry)) ⌝ }
 {
     match check_lines::check(Form::Listing, index, book, listing) {

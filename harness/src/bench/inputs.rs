@@ -23,9 +23,13 @@ fn letter(place: usize) -> char {
     char::from(b'A' + (place % 16) as u8)
 }
 
-/// 40 phrases of 23 bytes.
+/// 40 phrases of 23 bytes, and behind them 6 of 25.
 pub fn middle_book() -> Vec<u8> {
-    lines(40, middle_phrase).into_bytes()
+    (lines(40, middle_phrase) + &lines(6, wording)).into_bytes()
+}
+
+fn wording(place: usize) -> String {
+    format!("Wording of the district {}", place % 6)
 }
 
 fn middle_phrase(place: usize) -> String {
@@ -41,18 +45,18 @@ fn short_phrase(place: usize) -> String {
     format!("Reading{}", char::from(b'0' + (place % 40) as u8))
 }
 
-/// A guide of some 2 KB with six own phrases, most of its texts phrases.
+/// A guide of some 2 KB, most of its texts phrases of the middle book.
 pub fn middle_guide() -> Vec<u8> {
-    let mut guide = lines(6, |place| format!("phrase,Wording of the district {place}"));
+    let mut guide = String::new();
     let mut place = 0;
     while guide.len() < 1_900 {
         let [ask, yes, no] = [3, 5, 7].map(|step| middle_phrase(place * step));
         guide += &format!(
-            "inputs,{r},{ask},{yes},{no},Other {place}\nif,{r},eq,0\nprint,Wording of the district {own}\n\
+            "inputs,{r},{ask},{yes},{no},Other {place}\nif,{r},eq,0\nprint,{wording}\n\
              else\ninput,{s},{yes}\nif,{s},gt,{limit}\nprint,Over {limit}\nfi\nfi\n",
             r = place % 32,
             s = (place + 1) % 32,
-            own = place % 6,
+            wording = wording(place),
             limit = place * 9_000,
         );
         place += 1;
@@ -111,7 +115,7 @@ pub fn tests() -> Vec<u8> {
     "if,0,eq,0\nfi\nif,0,eq,100000\nfi\n".repeat(200).into_bytes()
 }
 
-/// 32 own phrases of 13 bytes, and 400 prints of them.
+/// A listing of 32 own phrases of 13 bytes, and 400 prints of them.
 pub fn own_prints() -> Vec<u8> {
     let own = |place: usize| format!("own phrase {:02}", place % MAX_OWN);
     let phrases = lines(MAX_OWN, |place| format!("phrase,{}", own(place)));
@@ -145,7 +149,7 @@ pub fn stepped() -> Vec<u8> {
     (front + &"print,a\n".repeat(rest) + &"else\nfi\n".repeat(MAX_LEVELS)).into_bytes()
 }
 
-/// 32 own phrases of 64 bytes, and 160 prints of the last one.
+/// A listing of 32 own phrases of 64 bytes, and 160 prints of the last one.
 pub fn own_phrases() -> Vec<u8> {
     let phrases = lines(MAX_OWN, |place| format!("phrase,{}", long_phrase(place)));
     let print = format!("print,{}\n", long_phrase(MAX_OWN - 1));

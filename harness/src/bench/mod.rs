@@ -14,6 +14,9 @@ use crate::reference::Model;
 use model::limits::SCRATCH;
 use model::vectors::Call;
 
+/// The calls that take a listing or its plate, where own phrases may stand.
+pub const OF_LISTING: [Call; 3] = [Call::WritePlate, Call::ReadPlate, Call::Run];
+
 /// Room for the longest result.
 const MOST: usize = 327_680;
 
@@ -31,6 +34,11 @@ impl Subject {
         let plate = model::translate(&guide, &book).expect("an accepted guide");
         let listing = model::read_plate(&plate, &book).expect("an accepted plate");
         Subject { guide, listing, book, answers }
+    }
+
+    /// A listing that is no guide's, for the calls `OF_LISTING` alone.
+    pub fn of_listing(listing: Vec<u8>, book: Vec<u8>, answers: Vec<i32>) -> Subject {
+        Subject { guide: Vec::new(), listing, book, answers }
     }
 
     /// What a call takes of it.

@@ -1,7 +1,7 @@
 //! What is measured, by size.
 
 use super::inputs::*;
-use super::{Subject, Work};
+use super::{Subject, Work, OF_LISTING};
 use model::cases::records::VOLTS;
 use model::limits::{MAX_BOOK, MAX_INSTRUCTIONS};
 use model::vectors::Call;
@@ -9,7 +9,7 @@ use model::vectors::Call;
 /// What the sizes are.
 pub const LEGEND: &str = "\
 small    case (b) of document 01, empty book
-middle   a guide of 2 KB, 6 own phrases, a book of 40 phrases of 23 bytes
+middle   a guide of 2 KB, a book of 40 phrases of 23 bytes and 6 of 25
 large    512 instructions, 192 inputs of 8 options and 320 prints, which is all that a plate holds; every text is a
          phrase of a full book. Listing and plate: 256 phrases of 64 bytes, which differ in their last two. Guide:
          240 such phrases, behind them 16 of one letter, which the guide uses, since longer ones do not fit a guide
@@ -19,7 +19,7 @@ phrases  512 instructions of every kind, whose texts are phrases of 8 bytes of a
 lines    512 lines print,a, and their plate, empty book
 asked    512 lines input,0,a, and their plate, empty book
 tests    400 ifs without a block, half of them with a constant of 32 bits, empty book
-own      32 own phrases of 13 bytes and 400 prints of them, empty book
+own      a listing of 32 own phrases of 13 bytes and 400 prints of them, and its plate, empty book
 plate    the plate of 2,953 bytes of spelled texts, empty book";
 
 /// A size, how it is made, and the calls that are measured on it.
@@ -33,19 +33,15 @@ pub const ALL: [Size; 12] = [
     Size { name: "small", subject: small, calls: &Call::ALL },
     Size { name: "middle", subject: middle, calls: &Call::ALL },
     Size { name: "large", subject: guide, calls: &[Call::Translate, Call::Walk] },
-    Size {
-        name: "large",
-        subject: listing,
-        calls: &[Call::WritePlate, Call::ReadPlate, Call::Run],
-    },
+    Size { name: "large", subject: listing, calls: &OF_LISTING },
     Size { name: "spelled", subject: spelled_with_book, calls: &Call::ALL },
     Size { name: "book", subject: book, calls: &[Call::Translate] },
     Size { name: "phrases", subject: phrases, calls: &Call::ALL },
     Size { name: "lines", subject: short, calls: &Call::ALL },
     Size { name: "asked", subject: asked, calls: &Call::ALL },
     Size { name: "tests", subject: ifs, calls: &Call::ALL },
-    Size { name: "own", subject: own, calls: &Call::ALL },
-    Size { name: "plate", subject: plate, calls: &[Call::WritePlate, Call::ReadPlate, Call::Run] },
+    Size { name: "own", subject: own, calls: &OF_LISTING },
+    Size { name: "plate", subject: plate, calls: &OF_LISTING },
 ];
 
 /// The work of a call at a size.
@@ -76,8 +72,7 @@ fn guide() -> Subject {
 
 /// The listing is too long for a guide.
 fn listing() -> Subject {
-    let [guide, listing, book] = [Vec::new(), large_listing(), long_book(MAX_BOOK)];
-    Subject { guide, listing, book, answers: zeros() }
+    Subject::of_listing(large_listing(), long_book(MAX_BOOK), zeros())
 }
 
 fn spelled_with_book() -> Subject {
@@ -105,7 +100,7 @@ fn ifs() -> Subject {
 }
 
 fn own() -> Subject {
-    Subject::of_guide(own_prints(), Vec::new(), Vec::new())
+    Subject::of_listing(own_prints(), Vec::new(), Vec::new())
 }
 
 fn plate() -> Subject {

@@ -1,7 +1,7 @@
 //! The stack that a call uses: it runs on memory filled with a pattern, and the deepest byte that changed is found.
 
 use super::inputs::*;
-use super::{Memory, Subject, Work};
+use super::{Memory, Subject, Work, OF_LISTING};
 use crate::calls::{Answer, Calls};
 use crate::library::Library;
 use crate::perform::make;
@@ -14,23 +14,25 @@ use std::ffi::c_void;
 const STACK: usize = 4 << 20;
 const PAINT: u8 = 0xA5;
 
-/// The inputs on which a call goes deepest or keeps most.
-fn subjects() -> [(&'static str, Subject); 8] {
+/// The inputs on which a call goes deepest or keeps most, and the calls that take them.
+fn subjects() -> [(&'static str, &'static [Call], Subject); 8] {
     let answers = vec![0; MAX_INSTRUCTIONS];
     let no_book = |guide| Subject::of_guide(guide, Vec::new(), Vec::new());
     let full = Subject::of_guide(spelled(), long_book(MAX_BOOK), answers.clone());
     let options = Subject::of_guide(large_guide(), mixed_book(), answers);
     let long_answers = [i32::MIN, 7].repeat(MAX_INSTRUCTIONS / 2);
     let asked = Subject::of_guide(asked_within(), long_book(MAX_BOOK), long_answers);
+    let own = Subject::of_listing(own_phrases(), Vec::new(), Vec::new());
+    let all = &Call::ALL;
     [
-        ("empty guide", no_book(Vec::new())),
-        ("511 prints", no_book(prints(511))),
-        ("16 levels around 480 prints", no_book(nested(MAX_LEVELS))),
-        ("24 prints in front of each of 16 ifs", no_book(stepped())),
-        ("plate of 2,953 bytes, full book", full),
-        ("32 own phrases of 64 bytes", no_book(own_phrases())),
-        ("192 inputs of 8 options, 320 prints", options),
-        ("questions in 16 levels, full book", asked),
+        ("empty guide", all, no_book(Vec::new())),
+        ("511 prints", all, no_book(prints(511))),
+        ("16 levels around 480 prints", all, no_book(nested(MAX_LEVELS))),
+        ("24 prints in front of each of 16 ifs", all, no_book(stepped())),
+        ("plate of 2,953 bytes, full book", all, full),
+        ("32 own phrases of 64 bytes", &OF_LISTING, own),
+        ("192 inputs of 8 options, 320 prints", all, options),
+        ("questions in 16 levels, full book", all, asked),
     ]
 }
 
@@ -65,10 +67,13 @@ pub fn print_stack() {
         print!("{:>13}", call.name());
     }
     println!();
-    for (name, subject) in subjects() {
+    for (name, calls, subject) in subjects() {
         print!("{name:<38}");
         for call in Call::ALL {
-            print!("{:>13}", bytes_used(&subject.work(call)));
+            match calls.contains(&call) {
+                true => print!("{:>13}", bytes_used(&subject.work(call))),
+                false => print!("{:>13}", ""),
+            }
         }
         println!();
     }

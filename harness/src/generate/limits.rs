@@ -1,4 +1,4 @@
-//! Inputs at the limits of document 01 and one past them.
+//! Inputs at the limits of documents 01 and 02 and one past them.
 
 use super::lines::{add, add_short, add_text, text_of};
 use super::stored;
@@ -24,7 +24,8 @@ fn text(rng: &mut Rng, source: Source) -> Sample {
         0 => with(instructions(rng, source)),
         1 => bytes(rng, source),
         2 => with(levels(rng)),
-        3..=4 => with(own_phrases(rng)),
+        3..=4 if source == Source::Listing => with(own_phrases(rng)),
+        3..=4 => with(phrase_line(rng)),
         5..=6 => with(texts(rng)),
         7 => full_book(rng),
         8 => with(full_plate(rng)),
@@ -116,7 +117,7 @@ fn levels(rng: &mut Rng) -> Vec<u8> {
     out
 }
 
-/// 31, 32 or 33 own phrases, and lines that use them.
+/// A listing with 31, 32 or 33 own phrases, and lines that use them.
 fn own_phrases(rng: &mut Rng) -> Vec<u8> {
     let mut out = Vec::new();
     let length = *rng.pick(&[2, 3, 20, MAX_TEXT]);
@@ -129,6 +130,20 @@ fn own_phrases(rng: &mut Rng) -> Vec<u8> {
     for _ in 0..rng.below(8) {
         let text = rng.pick(&phrases).clone();
         add_text(rng, &mut out, &text);
+    }
+    out
+}
+
+/// A guide with a phrase line, at times one of 0 or 65 bytes, and a few lines before and after it.
+fn phrase_line(rng: &mut Rng) -> Vec<u8> {
+    let mut out = Vec::new();
+    for _ in 0..rng.below(4) {
+        add_text(rng, &mut out, b"before");
+    }
+    let length = *rng.pick(&[0, 1, 2, MAX_TEXT, MAX_TEXT, MAX_TEXT + 1]);
+    add(&mut out, &[b"phrase,", &text_of(rng, length)[..]].concat());
+    for _ in 0..rng.below(4) {
+        add_text(rng, &mut out, b"after");
     }
     out
 }

@@ -1,6 +1,6 @@
-//! What only guides have: if, else and fi.
+//! What only guides have: if, else and fi. What they do not have: own phrases.
 
-use super::{case, gives_plate, lines, Accepted, Case, Expected, Refused, Source};
+use super::{case, gives_plate, lines, text, Accepted, Case, Expected, Refused, Source};
 
 pub const GROUPS: &[super::Group] = &[
     ("operators", operators),
@@ -8,6 +8,9 @@ pub const GROUPS: &[super::Group] = &[
     ("else_and_fi", else_and_fi),
     ("open_ifs", open_ifs),
     ("guide_instructions", guide_instructions),
+    ("phrase_lines", phrase_lines),
+    ("phrase_lines_at_limits", phrase_lines_at_limits),
+    ("phrase_lines_in_blocks", phrase_lines_in_blocks),
     ("skips_of_blocks", skips_of_blocks),
 ];
 
@@ -78,7 +81,6 @@ fn else_and_fi() -> Vec<Case> {
         (&[IF, ELSE, IF, FI, ELSE].concat(), Refused(7, 5)),
         (&[IF, ELSE, IF, ELSE, ELSE].concat(), Refused(7, 5)),
         (&[IF, IF, FI, FI, FI].concat(), Refused(7, 5)),
-        (&["phrase,a\n", FI].concat(), Refused(7, 2)),
     ])
 }
 
@@ -94,7 +96,7 @@ fn open_ifs() -> Vec<Case> {
         (&[IF, IF, FI, ELSE].concat(), Refused(7, 1)),
         (&[IF, ELSE, IF, FI, "print,a\n"].concat(), Refused(7, 1)),
         (&[IF, FI, IF, IF, FI, IF].concat(), Refused(7, 6)),
-        (&["phrase,a\n", "phrase,b\n", IF].concat(), Refused(7, 3)),
+        (&["print,a\n", "print,b\n", IF].concat(), Refused(7, 3)),
         (&IF.repeat(16), Refused(7, 16)),
         // A later line's own fault comes first.
         (&[IF, "print\n"].concat(), Refused(4, 2)),
@@ -108,7 +110,6 @@ fn open_ifs() -> Vec<Case> {
 /// 511, 512 and 513 instructions, the last of every kind.
 fn guide_instructions() -> Vec<Case> {
     let prints = |count| "print,a\n".repeat(count);
-    let phrases = lines(32, |place| format!("phrase,{}", super::word(place)));
     let empty_ifs = [IF, ELSE, FI].concat().repeat(256);
     let mut cases = guides([
         (&prints(511), Accepted),
@@ -124,8 +125,6 @@ fn guide_instructions() -> Vec<Case> {
         (&(IF.to_owned() + &prints(510) + ELSE + FI), Accepted),
         (&empty_ifs, Accepted),
         (&(empty_ifs.clone() + "print,a\n"), Refused(9, 769)),
-        (&(phrases.clone() + &prints(512)), Accepted),
-        (&(phrases + &prints(513)), Refused(9, 545)),
     ]);
     for line in ["printex,a\n", "input,0,a\n", "inputs,0,a,b,c\n"] {
         cases.extend(guides([
@@ -134,6 +133,81 @@ fn guide_instructions() -> Vec<Case> {
         ]));
     }
     cases
+}
+
+/// A phrase line is 6, at the first of them; on it 3, 4 and 5 come before, and so
+/// does an earlier line's fault.
+fn phrase_lines() -> Vec<Case> {
+    let mut cases = guides([
+        ("phrase,a\n", Refused(6, 1)),
+        ("phrase,a\nprint,a\n", Refused(6, 1)),
+        ("phrase,a\nphrase,b\nprint,a\n", Refused(6, 1)),
+        ("phrase,a\nphrase,\nphrase\n", Refused(6, 1)),
+        ("print,a\nphrase,a\n", Refused(6, 2)),
+        ("print,a\nphrase,b\nphrase,b\n", Refused(6, 2)),
+        ("print,a\nprint,b\nphrase,c\nprint,d\n", Refused(6, 3)),
+        (&lines(33, |place| format!("phrase,{}", super::word(place))), Refused(6, 1)),
+        (&format!("phrase,{}\n", text(64)), Refused(6, 1)),
+        (&format!("phrase,{}\n", text(65)), Refused(5, 1)),
+        ("phrase,\n", Refused(5, 1)),
+        ("phrase\n", Refused(4, 1)),
+        ("phrase,a,b\n", Refused(4, 1)),
+        ("phrase,,\n", Refused(4, 1)),
+        ("phrase,a\u{1}\n", Refused(3, 1)),
+        ("phrase\u{7f}\n", Refused(3, 1)),
+        ("phrase,\u{1}\n", Refused(3, 1)),
+        ("phrase,a", Refused(3, 1)),
+        ("print,\nphrase,a\n", Refused(5, 1)),
+        ("x\nphrase,a\n", Refused(4, 1)),
+    ]);
+    // A text that the book has is 6 too; a bad book comes first.
+    let books = [
+        ("phrase,a\n", "a\n", Refused(6, 1)),
+        ("print,a\nphrase,b\n", "a\nb\n", Refused(6, 2)),
+        ("phrase,a\n", "b\nb\n", Refused(1, 2)),
+    ];
+    cases.extend(
+        books.map(|(input, book, expected)| case(Source::Guide, input, book.as_bytes(), expected)),
+    );
+    cases
+}
+
+/// A phrase line is no instruction, so 9 is not judged on it; 2 comes before.
+fn phrase_lines_at_limits() -> Vec<Case> {
+    let prints = |count| "print,a\n".repeat(count);
+    let long = |count| "phrase,a\n".to_owned() + &prints(count);
+    guides([
+        (&long(512), Refused(6, 1)),
+        (&long(513), Refused(6, 1)),
+        (&(prints(511) + "phrase,a\n"), Refused(6, 512)),
+        (&(prints(512) + "phrase,a\n"), Refused(6, 513)),
+        (&(prints(513) + "phrase,a\n"), Refused(9, 513)),
+        (&(IF.to_owned() + &prints(511) + "phrase,a\n"), Refused(6, 513)),
+        // 16,377 and 16,385 bytes.
+        (&long(2_046), Refused(6, 1)),
+        (&long(2_047), Refused(2, 0)),
+    ])
+}
+
+/// Phrase lines about ifs: 6 at the line, before the 7 of an open if.
+fn phrase_lines_in_blocks() -> Vec<Case> {
+    let phrase = "phrase,a\n";
+    guides([
+        (&[IF, phrase, FI].concat(), Refused(6, 2)),
+        (&[IF, ELSE, phrase, FI].concat(), Refused(6, 3)),
+        (&[IF, FI, phrase].concat(), Refused(6, 3)),
+        (&[IF, ELSE, FI, phrase].concat(), Refused(6, 4)),
+        (&[IF, phrase].concat(), Refused(6, 2)),
+        (&[IF, "print,a\n", IF, ELSE, phrase].concat(), Refused(6, 5)),
+        (&[IF, "phrase,\n"].concat(), Refused(5, 2)),
+        (&(IF.repeat(16) + phrase), Refused(6, 17)),
+        (&(IF.repeat(17) + phrase), Refused(7, 17)),
+        (&[phrase, IF].concat(), Refused(6, 1)),
+        (&[phrase, FI].concat(), Refused(6, 1)),
+        (&[phrase, ELSE].concat(), Refused(6, 1)),
+        (&[FI, phrase].concat(), Refused(7, 1)),
+        (&[ELSE, phrase].concat(), Refused(7, 1)),
+    ])
 }
 
 /// The skips that translation makes, as plates.

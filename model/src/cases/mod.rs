@@ -1,4 +1,4 @@
-//! Inputs at the limits, each with the result that document 01 gives it,
+//! Inputs at the limits, each with the result that documents 01 and 02 give it,
 //! worked out by hand. The tests and the vectors use the same inputs.
 
 pub mod books;
@@ -57,6 +57,12 @@ pub fn guide_and_listing(input: &str, book: &[u8], expected: Expected) -> Vec<Ca
     [Source::Guide, Source::Listing]
         .map(|source| case(source, input, book, expected.clone()))
         .to_vec()
+}
+
+/// A text whose first line is an own phrase: a listing, and a guide that 6 refuses there.
+pub fn with_own_phrases(input: &str, book: &[u8], expected: Expected) -> Vec<Case> {
+    let guide = case(Source::Guide, input, book, Refused(6, 1));
+    vec![guide, case(Source::Listing, input, book, expected)]
 }
 
 /// The expectation that a guide or listing gives a plate in [`notation`].

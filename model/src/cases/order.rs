@@ -1,6 +1,6 @@
 //! The order of causes in guides and listings.
 
-use super::{case, guide_and_listing, text, Case, Refused, Source};
+use super::{case, guide_and_listing, text, with_own_phrases, Case, Refused, Source};
 
 pub const GROUPS: &[super::Group] = &[
     ("order_on_a_line", order_on_a_line),
@@ -45,14 +45,15 @@ fn order_of_lines() -> Vec<Case> {
         ("x\nprint,a", 4, 1),
         ("x\nprint,\n", 4, 1),
         ("print,\nx\n", 5, 1),
-        ("phrase,a\nphrase,a\n\u{1}\n", 6, 2),
-        ("phrase,a\nphrase,a\nx\n", 6, 2),
         ("print,a\nphrase,b\nprint,\n", 6, 2),
         ("print,a\ninput,32,b\nphrase,b\n\n", 5, 2),
     ];
     let cases =
         table.map(|(input, number, line)| guide_and_listing(input, b"", Refused(number, line)));
     let mut cases = cases.concat();
+    for input in ["phrase,a\nphrase,a\n\u{1}\n", "phrase,a\nphrase,a\nx\n"] {
+        cases.extend(with_own_phrases(input, b"", Refused(6, 2)));
+    }
     cases.push(case(Source::Guide, "fi\n\u{1}\n", b"", Refused(7, 1)));
     cases.push(case(Source::Guide, "else\nx\n", b"", Refused(7, 1)));
     cases
@@ -77,6 +78,7 @@ fn order_at_the_last_instruction() -> Vec<Case> {
         cases.extend(guide_and_listing(&input, b"", Refused(number, 513)));
     }
     let guides = [
+        (full.clone() + "phrase,b\nprint,b\n", 6),
         (full.clone() + "else\n", 7),
         (full.clone() + "fi\n", 7),
         (full.clone() + "if,0,xx,0\n", 5),

@@ -62,11 +62,13 @@ pub const VOLTS: &str = "input,0,Volts\nif,0,lt,100\nprintex,Fuse\nelse\nfi\npri
 /// The four outcomes, answers left over, and the form of an answer.
 fn outcomes() -> Vec<RecordCase> {
     let volts = |answers: &[i32], transcript, ends| guide(VOLTS, "", answers, transcript, ends);
-    let own = "phrase,own\nprint,own\nprint,book\nprintex,spelled\nprint,never\n";
+    let phrases = "print,spelled\nprint,book\nprintex,book\nprint,never\n";
+    let own = "1 0:5 'own'; 4:10 010 10 1 010 10 0 011 00 'spelled'; 010 00 'never';";
     let mut cases = vec![
         guide("", "", &[], "", (1, 0, 0)),
         guide("", "", &[1, 2], "", (1, 0, 0)),
-        guide("phrase,a\nphrase,b\n", "c\n", &[], "", (1, 0, 0)),
+        guide("", "c\n", &[], "", (1, 0, 0)),
+        plate("1 1:5 'a'; 'b'; 0:10", "c\n", &[], "", (1, 0, 0)),
         guide("print,a\n", "", &[], "S,a\n", (1, 0, 1)),
         guide("printex,a\n", "", &[7], "V,a\n", (0, 0, 1)),
         guide("printex,a\nprintex,b\nprint,c\n", "", &[], "V,a\n", (0, 0, 1)),
@@ -75,7 +77,8 @@ fn outcomes() -> Vec<RecordCase> {
         volts(&[100], "Q,Volts\nA,100\nS,OK\n", (1, 1, 3)),
         volts(&[101, 0], "Q,Volts\nA,101\nS,OK\n", (1, 1, 3)),
         volts(&[], "Q,Volts\n", (2, 0, 1)),
-        guide(own, "book\n", &[], "S,own\nS,book\nV,spelled\n", (0, 0, 3)),
+        guide(phrases, "book\n", &[], "S,spelled\nS,book\nV,book\n", (0, 0, 3)),
+        plate(own, "book\n", &[], "S,own\nS,book\nV,spelled\n", (0, 0, 3)),
     ];
     let two = "input,0,a\nprint,b\ninput,1,c\n";
     cases.push(guide(two, "", &[5], "Q,a\nA,5\nS,b\nQ,c\n", (2, 1, 3)));

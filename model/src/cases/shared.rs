@@ -1,6 +1,6 @@
-//! Kinds, counts of fields and own phrases in guides and listings.
+//! Kinds, counts of fields and phrases in guides and listings.
 
-use super::{book_of, case, gives_plate, guide_and_listing, lines, text, word};
+use super::{book_of, case, gives_plate, guide_and_listing, lines, text, with_own_phrases, word};
 use super::{Accepted, Case, Refused, Source};
 
 pub const GROUPS: &[super::Group] = &[
@@ -89,8 +89,10 @@ fn kinds() -> Vec<Case> {
         cases.extend(guide_and_listing(&input, b"", Refused(4, 2)));
     }
     for line in ["print,b", "printex,b", "input,0,b", "inputs,0,b,c,d"] {
-        let input = format!("phrase,a\n{line}\nprint,b\n");
+        let input = format!("{line}\nprint,b\n");
         cases.extend(guide_and_listing(&input, b"", Accepted));
+        let input = format!("phrase,a\n{line}\nprint,b\n");
+        cases.extend(with_own_phrases(&input, b"", Accepted));
     }
     cases
 }
@@ -119,7 +121,7 @@ fn own_phrase_counts() -> Vec<Case> {
     for count in [1, 2, 31, 32] {
         let spelled: String = (0..count).map(|place| format!("'{}';", word(place))).collect();
         let plate = format!("1 {}:5 {spelled} 0:10", count - 1);
-        cases.extend(guide_and_listing(&phrases(count), b"", gives_plate(&plate)));
+        cases.extend(with_own_phrases(&phrases(count), b"", gives_plate(&plate)));
     }
     let refused = [
         phrases(33),
@@ -128,11 +130,11 @@ fn own_phrase_counts() -> Vec<Case> {
         phrases(32) + "phrase,aa\n",
     ];
     for input in refused {
-        cases.extend(guide_and_listing(&input, b"", Refused(6, 33)));
+        cases.extend(with_own_phrases(&input, b"", Refused(6, 33)));
     }
     let empty = phrases(32) + "phrase,\n";
-    cases.extend(guide_and_listing(&empty, b"", Refused(5, 33)));
-    let of_book = guide_and_listing(&phrases(32), &book_of(33)[32 * 3..], Accepted);
+    cases.extend(with_own_phrases(&empty, b"", Refused(5, 33)));
+    let of_book = with_own_phrases(&phrases(32), &book_of(33)[32 * 3..], Accepted);
     cases.extend(of_book);
     cases
 }
@@ -144,14 +146,8 @@ fn own_phrases_late() -> Vec<Case> {
         let input = format!("{line}\nphrase,z\n");
         cases.extend(guide_and_listing(&input, b"", Refused(6, 2)));
         let input = format!("phrase,y\n{line}\nprint,a\nphrase,z\n");
-        cases.extend(guide_and_listing(&input, b"", Refused(6, 4)));
+        cases.extend(with_own_phrases(&input, b"", Refused(6, 4)));
     }
-    let guides = [
-        ("if,0,eq,0\nphrase,z\nfi\n", 2),
-        ("if,0,eq,0\nelse\nphrase,z\nfi\n", 3),
-        ("if,0,eq,0\nfi\nphrase,z\n", 3),
-    ];
-    cases.extend(guides.map(|(input, line)| case(Source::Guide, input, b"", Refused(6, line))));
     let listings = [
         ("goto,0\nphrase,z\n", 2),
         ("if,0,eq,0,0\nphrase,z\n", 2),
@@ -178,28 +174,35 @@ fn own_phrases_repeated() -> Vec<Case> {
         ("phrase,print\nphrase,fi\nphrase,0\nprint,fi\n", "else\n", Accepted),
     ];
     let cases =
-        table.map(|(input, book, expected)| guide_and_listing(input, book.as_bytes(), expected));
+        table.map(|(input, book, expected)| with_own_phrases(input, book.as_bytes(), expected));
     cases.concat()
 }
 
 /// A text that is a phrase is written as one, wherever it stands.
 fn phrases_in_use() -> Vec<Case> {
-    let table = [
+    let of_book = [
         ("print,a\n", "a\n", "0 1:10 010 10"),
         ("printex,b\n", "a\nb\n", "0 1:10 011 10 1"),
         ("input,3,a\n", "a\nb\n", "0 1:10 000 3:5 10 0"),
+        ("print,ab\n", "a\nb\n", "0 1:10 010 00 'ab';"),
+        ("inputs,31,b,q,c,b\n", "a\nb\nc\n", "0 1:10 001 31:5 10 1:2 1:3 00 'q'; 10 2:2 10 1:2"),
+    ];
+    let mut cases = of_book
+        .map(|(input, book, plate)| guide_and_listing(input, book.as_bytes(), gives_plate(plate)))
+        .concat();
+    let own = [
         ("phrase,p\nprint,p\n", "", "1 0:5 'p'; 1:10 010 10"),
         ("phrase,p\nprint,p\n", "a\n", "1 0:5 'p'; 1:10 010 10 1"),
         ("phrase,p\nprint,a\n", "a\n", "1 0:5 'p'; 1:10 010 10 0"),
         ("phrase,p\nprint,q\n", "a\n", "1 0:5 'p'; 1:10 010 00 'q';"),
-        ("print,ab\n", "a\nb\n", "0 1:10 010 00 'ab';"),
         (
             "phrase,p\nphrase,q\ninputs,31,b,q,x,c,p\n",
             "a\nb\nc\n",
             "1 1:5 'p'; 'q'; 1:10 001 31:5 10 0 1:2 2:3 10 1 1 00 'x'; 10 0 2:2 10 1 0",
         ),
     ];
-    let cases = table
-        .map(|(input, book, plate)| guide_and_listing(input, book.as_bytes(), gives_plate(plate)));
-    cases.concat()
+    for (input, book, plate) in own {
+        cases.extend(with_own_phrases(input, book.as_bytes(), gives_plate(plate)));
+    }
+    cases
 }

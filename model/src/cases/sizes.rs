@@ -22,7 +22,7 @@ pub fn longest_line() -> String {
 }
 
 /// 16,349 bytes on 31 lines, then a print with its LF.
-fn long_guide(last_text: usize) -> String {
+pub fn long_guide(last_text: usize) -> String {
     let print = format!("print,{}\n", text(64));
     let last = format!("print,{}\n", "y".repeat(last_text));
     longest_line().repeat(27) + &print.repeat(4) + &last

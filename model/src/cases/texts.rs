@@ -1,7 +1,7 @@
 //! Texts, bytes and numbers on the lines that guides and listings share.
 
-use super::{case, gives_plate, guide_and_listing, text, Accepted, Case, Refused, Source};
-use super::{Expected, NEAR_LIMITS};
+use super::{case, gives_plate, guide_and_listing, text, with_own_phrases, Accepted, Case};
+use super::{Expected, Refused, Source, NEAR_LIMITS};
 
 pub const GROUPS: &[super::Group] = &[
     ("text_lengths", text_lengths),
@@ -22,15 +22,20 @@ fn text_lengths() -> Vec<Case> {
         ["inputs,0,a,", ",c"],
         ["inputs,0,a,b,", ""],
         ["inputs,0,a,b,c,d,e,f,g,h,", ""],
-        ["phrase,", ""],
     ];
+    let lengths = [(0, false), (1, true), (63, true), (64, true), (65, false)];
     let mut cases = Vec::new();
     for [before, after] in lines {
-        for (length, fits) in [(0, false), (1, true), (63, true), (64, true), (65, false)] {
-            let input = format!("phrase,p\n{before}{}{after}\n", text(length));
+        for (length, fits) in lengths {
+            let input = format!("print,p\n{before}{}{after}\n", text(length));
             let expected = if fits { Accepted } else { Refused(5, 2) };
             cases.extend(guide_and_listing(&input, b"", expected));
         }
+    }
+    for (length, fits) in lengths {
+        let input = format!("phrase,p\nphrase,{}\n", text(length));
+        let expected = if fits { Accepted } else { Refused(5, 2) };
+        cases.extend(with_own_phrases(&input, b"", expected));
     }
     for length in [1, 64] {
         let text = text(length);

@@ -1,6 +1,6 @@
 //! The widths of places and of constants, written and read.
 
-use super::{book_of, case, gives_plate, guide_and_listing, lines, read_as, refused_at_mark, word};
+use super::{book_of, case, gives_plate, lines, read_as, refused_at_mark, word};
 use super::{Case, Refused, Source};
 
 pub const GROUPS: &[super::Group] = &[
@@ -36,11 +36,10 @@ const WIDTHS: [(usize, usize); 21] = [
     (256, 8),
 ];
 
-/// A text, as guide, listing and plate.
-fn written_and_read(text: &str, book: &[u8], notation: &str) -> Vec<Case> {
-    let mut cases = guide_and_listing(text, book, gives_plate(notation));
-    cases.push(read_as(notation, book, text));
-    cases
+/// A text, as listing and plate.
+fn listed_and_read(text: &str, book: &[u8], notation: &str) -> [Case; 2] {
+    let listed = case(Source::Listing, text, book, gives_plate(notation));
+    [listed, read_as(notation, book, text)]
 }
 
 fn book_places() -> Vec<Case> {
@@ -50,7 +49,8 @@ fn book_places() -> Vec<Case> {
         for place in [0, count / 2, count - 1] {
             let text = format!("print,{}\n", word(place));
             let notation = format!("0 1:10 010 10 {place}:{width}");
-            cases.extend(written_and_read(&text, &book, &notation));
+            cases.push(case(Source::Guide, &text, &book, gives_plate(&notation)));
+            cases.extend(listed_and_read(&text, &book, &notation));
         }
         if count < 1 << width {
             let notation = format!("0 1:10 010 10 ^{count}:{width}");
@@ -77,7 +77,7 @@ fn own_places() -> Vec<Case> {
         for place in [0, count / 2, count - 1] {
             let text = format!("{text}printex,own {}\n", word(place));
             let notation = format!("{notation} 1:10 011 10 {place}:{width}");
-            cases.extend(written_and_read(&text, b"", &notation));
+            cases.extend(listed_and_read(&text, b"", &notation));
         }
         if count < 1 << width {
             let notation = format!("{notation} 1:10 011 10 ^{count}:{width}");
@@ -101,7 +101,7 @@ fn places_of_both() -> Vec<Case> {
         let of_book = format!("010 10 0 {}:{book_width}", last[0]);
         let of_own = format!("010 10 1 {}:{own_width}", last[1]);
         let both = format!("{notation} 2:10 {of_book} {of_own}");
-        cases.extend(written_and_read(&text, &book, &both));
+        cases.extend(listed_and_read(&text, &book, &both));
         if in_book < 1 << book_width {
             let past = format!("{notation} 1:10 010 10 0 ^{in_book}:{book_width}");
             cases.push(refused_at_mark(13, &past, &book));

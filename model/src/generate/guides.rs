@@ -1,4 +1,4 @@
-//! Random guides, accepted but for a few limits.
+//! Random guides, accepted but for a few limits and, at times, phrase lines.
 
 use super::words::{action, constant, op, register, size, Words};
 use crate::rng::Rng;
@@ -16,7 +16,7 @@ struct Writer<'r> {
 }
 
 pub fn guide(rng: &mut Rng, words: &Words) -> Vec<u8> {
-    let out = words.phrase_lines(rng);
+    let out = if rng.once_in(40) { words.phrase_lines(rng) } else { Vec::new() };
     let left = size(rng);
     let if_share = *rng.pick(&[0, 2, 5, 8]);
     let deep = rng.once_in(12);

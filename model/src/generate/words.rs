@@ -34,7 +34,7 @@ impl Words {
         bytes
     }
 
-    /// The `phrase` lines. At times one is the book's, or the last is the 33rd.
+    /// The `phrase` lines of a listing. At times one is the book's, or the last is the 33rd.
     pub fn phrase_lines(&self, rng: &mut Rng) -> Vec<u8> {
         let mut bytes = Vec::new();
         let mut add = |text: &[u8]| bytes.extend_from_slice(&[b"phrase,", text, b"\n"].concat());

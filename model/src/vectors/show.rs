@@ -2,8 +2,7 @@
 
 use super::stdin;
 use crate::cases::records::VOLTS;
-use crate::cases::sizes::longest_line;
-use crate::cases::{self, text, Source};
+use crate::cases::{self, sizes, Source};
 use crate::examples::GUIDES;
 use crate::generate;
 use crate::rng::Rng;
@@ -14,7 +13,8 @@ const RANDOM: usize = 500;
 /// The longest random guide.
 const LONGEST: usize = 300;
 /// The groups of cases whose guides are left out, to keep the file small.
-const LEFT_OUT: [&str; 2] = ["guide_bytes", "order_at_the_last_instruction"];
+const LEFT_OUT: [&str; 3] =
+    ["guide_bytes", "phrase_lines_at_limits", "order_at_the_last_instruction"];
 
 #[derive(Clone, Debug, PartialEq, Eq)]
 pub struct Case {
@@ -47,11 +47,12 @@ fn worked() -> [&'static str; 4] {
     ["printex,OK\n", VOLTS, "if,0,eq,0\nprint,a\nelse\nfi\nprint,b\n", ""]
 }
 
-/// Guides of 16,383, 16,384 and 16,385 bytes, whose long text is an own phrase.
+/// A guide of 11,023 bytes whose plate has 2,952, and guides of 16,384 and 16,385 bytes,
+/// which with an empty book are 10 and 2.
 fn largest() -> [Vec<u8>; 3] {
-    let print = format!("print,{}\n", text(64));
-    let start = format!("phrase,{}\n", text(64)) + &longest_line().repeat(27) + &print.repeat(3);
-    [26, 27, 28].map(|last| format!("{start}print,{}\n", "y".repeat(last)).into_bytes())
+    let fits = "if,31,eq,-2147483648\nfi\n".repeat(259) + &"if,31,eq,-32768\nfi\n".repeat(253);
+    let [last, past] = [28, 29].map(sizes::long_guide);
+    [fits, last, past].map(String::into_bytes)
 }
 
 /// The guides at the limits, with an empty book: every cause but 1 and 11.

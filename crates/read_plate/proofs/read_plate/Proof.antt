@@ -11,7 +11,7 @@ slice-aggregate-read-with : tie.Need-slice-aggregate-read-with
 slice-aggregate-read-with c = search needs
 
 read-with-requires : tie.Need-read-with-requires
-read-with-requires c κs = checked-none _ (c .before .before .if1 .taken)
+read-with-requires c κs = checked-none 32 _ (c .before .before .if1 .taken)
 
 same-length : tie.Need-same-length
 same-length c = search needs
@@ -35,7 +35,7 @@ slice-aggregate-read-with-2 : tie.Need-slice-aggregate-read-with-2
 slice-aggregate-read-with-2 c = search needs
 
 read-with-requires-2 : tie.Need-read-with-requires-2
-read-with-requires-2 c κs = checked-book _ _ _ (c .before .before .before .before .before .check-book .ensures .0) (c .before .before .before .before .before .check-book .ensures .1) (search needs) (c .before .before .enum-told .given .1)
+read-with-requires-2 c κs = checked-book 32 _ _ _ (c .before .before .before .before .before .check-book .ensures .0) (c .before .before .before .before .before .check-book .ensures .1) (search needs) (c .before .before .enum-told .given .1)
 
 returns-2 : tie.Need-returns-2
 returns-2 c = call-book _ _ _ _ (sym (answer-is _ _ (c .before .before .before .before .check-book .ensures .0)) ∙ c .before .line .given .1)

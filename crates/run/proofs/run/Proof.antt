@@ -11,7 +11,7 @@ slice-aggregate-run-with : tie.Need-slice-aggregate-run-with
 slice-aggregate-run-with c = search needs
 
 run-with-requires : tie.Need-run-with-requires
-run-with-requires c κs = checked-none _ (c .before .before .before .if1 .taken)
+run-with-requires c κs = checked-none 32 _ (c .before .before .before .if1 .taken)
 
 same-length : tie.Need-same-length
 same-length c = search needs
@@ -38,7 +38,7 @@ slice-aggregate-run-with-2 : tie.Need-slice-aggregate-run-with-2
 slice-aggregate-run-with-2 c = search needs
 
 run-with-requires-2 : tie.Need-run-with-requires-2
-run-with-requires-2 c κs = checked-book _ _ _ (c .before .before .before .before .before .before .check-book .ensures .0) (c .before .before .before .before .before .before .check-book .ensures .1) (search needs) (c .before .before .before .enum-told .given .1)
+run-with-requires-2 c κs = checked-book 32 _ _ _ (c .before .before .before .before .before .before .check-book .ensures .0) (c .before .before .before .before .before .before .check-book .ensures .1) (search needs) (c .before .before .before .enum-told .given .1)
 
 returns-2 : tie.Need-returns-2
 returns-2 c = (call-book _ _ _ _ _ _ (sym (answer-is _ _ (c .before .before .before .before .check-book .ensures .0)) ∙ c .before .line .given .1), refl)

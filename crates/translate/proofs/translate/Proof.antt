@@ -11,7 +11,7 @@ slice-aggregate-translate-with : tie.Need-slice-aggregate-translate-with
 slice-aggregate-translate-with c = search needs
 
 translate-with-requires : tie.Need-translate-with-requires
-translate-with-requires c κs = checked-none _ (c .before .before .if1 .taken)
+translate-with-requires c κs = checked-none 0 _ (c .before .before .if1 .taken)
 
 same-length : tie.Need-same-length
 same-length c = search needs
@@ -37,7 +37,7 @@ slice-aggregate-translate-with-2 c = search needs
 translate-with-requires-2 : tie.Need-translate-with-requires-2
 translate-with-requires-2 c κs =
     let checked = c .before .before .before .before .before .check-book .ensures in
-    checked-book _ _ _ (checked .0) (checked .1) (search needs) (c .before .before .enum-told .given .1)
+    checked-book 0 _ _ _ (checked .0) (checked .1) (search needs) (c .before .before .enum-told .given .1)
 
 returns-2 : tie.Need-returns-2
 returns-2 c = call-book _ _ _ _ (sym (answer-is _ _ (c .before .before .before .before .check-book .ensures .0)) ∙ c .before .line .given .1)

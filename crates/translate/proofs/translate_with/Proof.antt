@@ -1,5 +1,6 @@
 -- `translate_with` meets its contract: the refusal of the guide, or what the plate's writer leaves.
 use mathlib.Core.Path.{sym, _∙_}
+use Rattle.check_lines.proofs.Fine.{guide-no-own}
 use Rattle.assemble.proofs.Accepted.{few-bytes, accepted-counted}
 use Rattle.translate.proofs.Whole.{call-guide, call-translated}
 use borrow.Author.Needs.{needs}
@@ -12,15 +13,15 @@ check-requires c κs = search needs
 enum-known-r : tie.Need-enum-known-r
 enum-known-r c = search needs
 
-enum-known-own : tie.Need-enum-known-own
-enum-known-own c = search needs
+enum-known-instructions : tie.Need-enum-known-instructions
+enum-known-instructions c = search needs
 
 write-requires : tie.Need-write-requires
 write-requires c κs =
     let checked = c .before .before .before .before .before .before .before .check .ensures in
-    let fine = c .before .before .before .own .given .1 in
+    let fine = c .before .before .before .instructions .given .1 in
     let guide = sym (checked .0) ∙ fine in
-    (few-bytes _ _ _ guide, checked .1 .0 _ _ fine, accepted-counted _ _ _ guide _)
+    (few-bytes _ _ _ guide, rw (guide-no-own _ _ guide) at (checked .1 .0 _ _ fine), accepted-counted _ _ _ guide _)
 
 same-length : tie.Need-same-length
 same-length c = search needs
@@ -35,7 +36,7 @@ same-length-3 : tie.Need-same-length-3
 same-length-3 c = search needs
 
 returns-2 : tie.Need-returns-2
-returns-2 c = call-translated _ _ _ _ _ _ (c .before .before .before .before .before .before .before .before .before .before .before .before .before .before .before .before .pre .phrases) (sym (c .before .before .before .before .before .before .before .before .before .before .check .ensures .0) ∙ c .before .before .before .before .before .before .own .given .1) (c .before .before .write .ensures)
+returns-2 c = call-translated _ _ _ _ _ _ (c .before .before .before .before .before .before .before .before .before .before .before .before .before .before .before .before .pre .phrases) (sym (c .before .before .before .before .before .before .before .before .before .before .check .ensures .0) ∙ c .before .before .before .before .before .before .instructions .given .1) (c .before .before .write .ensures)
 
 pub translate-with-spec : {M : Type 1} → statement M
 translate-with-spec =
@@ -43,7 +44,7 @@ translate-with-spec =
     (tie.spec
     check-requires
     enum-known-r
-    enum-known-own
+    enum-known-instructions
     write-requires
     same-length
     returns

@@ -25,17 +25,17 @@ slice-aggregate-check c = search needs
 check-requires : tie.Need-check-requires
 check-requires c κs =
     let checked = c .before .before .before .before .check-book .ensures in
-    let book = checked-book _ _ _ (checked .0) (checked .1) (search needs) (c .before .enum-told .given .1) in
+    let book = checked-book 0 _ _ _ (checked .0) (checked .1) (search needs) (c .before .enum-told .given .1) in
     (book .indexed, book .room)
 
 enum-known-r : tie.Need-enum-known-r
 enum-known-r c = search needs
 
-enum-known-own : tie.Need-enum-known-own
-enum-known-own c = search needs
+enum-known-instructions : tie.Need-enum-known-instructions
+enum-known-instructions c = search needs
 
 write-requires : tie.Need-write-requires
-write-requires c κs = (_, sym (c .before .before .before .before .before .check .ensures .0) ∙ c .before .before .own .given .1)
+write-requires c κs = (_, _, sym (c .before .before .before .before .before .check .ensures .0) ∙ c .before .before .instructions .given .1)
 
 returns : tie.Need-returns
 returns c =
@@ -54,7 +54,7 @@ returns-3 c =
     let told = c .before .before .before .before .before in
     let n = told .before .before .before .before .before in
     let book = sym (answer-is _ _ (n .before .before .before .check-book .ensures .0)) ∙ n .enum-told .given .1 in
-    let guide = sym (told .before .before .before .check .ensures .0) ∙ told .own .given .1 in
+    let guide = sym (told .before .before .before .check .ensures .0) ∙ told .instructions .given .1 in
     call-walked _ _ _ _ _ _ _ _ book guide (c .before .before .write .ensures)
 
 pub walk-spec : {M : Type 1} → statement M
@@ -68,7 +68,7 @@ walk-spec =
     slice-aggregate-check
     check-requires
     enum-known-r
-    enum-known-own
+    enum-known-instructions
     write-requires
     returns
     returns-2

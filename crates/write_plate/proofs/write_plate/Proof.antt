@@ -11,7 +11,7 @@ slice-aggregate-write-with : tie.Need-slice-aggregate-write-with
 slice-aggregate-write-with c = search needs
 
 write-with-requires : tie.Need-write-with-requires
-write-with-requires c κs = checked-none _ (c .before .before .if1 .taken)
+write-with-requires c κs = checked-none 32 _ (c .before .before .if1 .taken)
 
 same-length : tie.Need-same-length
 same-length c = search needs
@@ -37,7 +37,7 @@ slice-aggregate-write-with-2 c = search needs
 write-with-requires-2 : tie.Need-write-with-requires-2
 write-with-requires-2 c κs =
     let checked = c .before .before .before .before .before .check-book .ensures in
-    checked-book _ _ _ (checked .0) (checked .1) (search needs) (c .before .before .enum-told .given .1)
+    checked-book 32 _ _ _ (checked .0) (checked .1) (search needs) (c .before .before .enum-told .given .1)
 
 returns-2 : tie.Need-returns-2
 returns-2 c = call-book _ _ _ _ (sym (answer-is _ _ (c .before .before .before .before .check-book .ensures .0)) ∙ c .before .line .given .1)

@@ -3,8 +3,8 @@ use mathlib.Core.Path.{refl}
 use borrow.Author.Needs.{needs}
 use Rattle.text.specs.Parts.{comma, partsFrom}
 use Rattle.transcript.specs.Statement.{print, printex}
-use Rattle.lines.specs.Line.{phrase, says, elseLine, fiLine}
-use Rattle.lines.proofs.CleanLines.{text-clean, bare-clean, of-kind, head-of-kind}
+use Rattle.lines.specs.Line.{says, elseLine, fiLine}
+use Rattle.lines.proofs.CleanLines.{text-clean, phrase-clean, bare-clean, of-kind, head-of-kind}
 use Rattle.accepted_lines.proofs.accepted.accepted_fields.Statement.{statement}
 use Rattle.accepted_lines.proofs.accepted.accepted_fields.Tie as tie
 
@@ -54,7 +54,7 @@ returns : tie.Need-returns
 returns c =
     let e = c .enum-told .given .1 in
     let fs = partsFrom comma (c .before .before .before .args .a) (c .before .before .before .args .s .now) in
-    head-of-kind _ fs e (text-clean phrase (λ t. refl) fs (of-kind (c .before .before .before .args .form) fs e (c .before .before .before .pre)))
+    head-of-kind _ fs e (phrase-clean (c .before .before .before .args .form) fs (of-kind (c .before .before .before .args .form) fs e (c .before .before .before .pre)))
 
 returns-2 : tie.Need-returns-2
 returns-2 c = head-of-kind _ _ (c .before .enum-told2 .given .1) (c .accepted-input .ensures)

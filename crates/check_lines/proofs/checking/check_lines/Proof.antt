@@ -15,13 +15,13 @@ use Rattle.check_lines.proofs.checking.check_lines.Tie as tie
 
 abbrev Inv-loop : tie.InvT-loop
 Inv-loop form index₀ book text opens₀ s₀ n₀ a₀ index opens s n a =
-    Passed form (bookTexts book) text n a s opens × Numbered book text index₀ index (s .own) n a
+    Passed form (bookTexts book) text n a s opens × Numbered form book text index₀ index (s .own) n a
 
 abbrev μ-loop : tie.MeasureT-loop
 μ-loop form index₀ book text opens₀ s₀ n₀ a₀ index opens s n a = length text - a
 
 loop-holds : tie.Need-loop-holds Inv-loop μ-loop
-loop-holds c = (passed-none _ _ _ _ refl, numbered-none _ _ _ (c .before .before .before .pre .0) (c .before .before .before .pre .1))
+loop-holds c = (passed-none _ _ _ _ refl, numbered-none _ _ _ _ (c .before .before .before .pre .0) (c .before .before .before .pre .1))
 
 find-requires : tie.Need-find-requires Inv-loop μ-loop
 find-requires c κs = search needs
@@ -116,7 +116,7 @@ returns-3 : tie.Need-returns-3 Inv-loop μ-loop
 returns-3 c =
     let i = c .before .before .before .loop .inv in
     let e = c .at-end .ensures _ (i .0 .holds .own) in
-    (e ∙ sym (ap checkedAnswer (passed-end (i .0) (c .before .before .loop-test .left))), (listed-end _ _ _ (i .1) (i .0 .seen) (i .0 .holds) e, i .1 .kept))
+    (e ∙ sym (ap checkedAnswer (passed-end (i .0) (c .before .before .loop-test .left))), (listed-end _ _ _ _ (i .1) (i .0 .seen) (i .0 .holds) e, i .1 .kept))
 
 pub check-lines-spec : {M : Type 1} → statement M
 check-lines-spec =

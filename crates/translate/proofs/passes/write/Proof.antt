@@ -37,7 +37,7 @@ returns : tie.Need-returns
 returns c =
     let a = c .before .before .before .before .before .before .before .before .before .before .before .before .args in
     c .before .before .write .ensures
-    ∙ ap (λ (ks : List ℕ). lentProgram (bookTexts (a .book .now)) (programIn aGuide ks (a .guide .now) (a .own)) (a .plate .now)) (whole-table _ _ _ (c .before .before .before .before .before .before .block-length .ensures .0))
+    ∙ ap (λ (ks : List ℕ). lentProgram (bookTexts (a .book .now)) (programIn aGuide ks (a .guide .now) 0) (a .plate .now)) (whole-table _ _ _ (c .before .before .before .before .before .before .block-length .ensures .0))
 
 pub write-spec : {M : Type 1} → statement M
 write-spec =

@@ -1,7 +1,5 @@
 -- `produce` meets its contract: it is the walk from the start, over all lines.
-use mathlib.Core.Path.{ap}
 use native.Mathlib.Omega.{arith}
-use lib.ListN.{length}
 use Rattle.machine.proofs.Passes.{fresh-steps}
 use Rattle.walk.proofs.Whole.{text-laid}
 use borrow.Author.Needs.{needs}
@@ -12,9 +10,7 @@ fresh-requires : tie.Need-fresh-requires
 fresh-requires c κs = search needs
 
 block-requires : tie.Need-block-requires
-block-requires c κs =
-    let p = c .before .before .before .before .before .pre in
-    (search needs, omega (arith, fresh-steps _ (c .fresh .ensures), ap length (p .0)), p .2)
+block-requires c κs = (search needs, omega (arith, fresh-steps _ (c .fresh .ensures)), c .before .before .before .before .before .pre)
 
 same-length : tie.Need-same-length
 same-length c = search needs
@@ -22,7 +18,7 @@ same-length c = search needs
 returns : tie.Need-returns
 returns c =
     let walked = c .before .before .before in
-    (_, text-laid _ _ _ _ _ _ _ _ _ (walked .block .ensures .0) (walked .before .before .before .before .before .before .pre .0) (walked .before .fresh .ensures _))
+    (_, text-laid _ _ _ _ _ _ _ _ (walked .block .ensures .0) (walked .before .fresh .ensures _))
 
 pub produce-spec : {M : Type 1} → statement M
 produce-spec = tie.close (tie.spec fresh-requires block-requires same-length returns)

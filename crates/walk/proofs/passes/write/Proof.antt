@@ -7,12 +7,6 @@ use borrow.Author.Needs.{needs}
 use Rattle.walk.proofs.passes.write.Statement.{statement}
 use Rattle.walk.proofs.passes.write.Tie as tie
 
-behind-phrases-requires : tie.Need-behind-phrases-requires
-behind-phrases-requires c κs = counted-clean _ _ _ (c .before .before .pre)
-
-sub-if2 : tie.Need-sub-if2
-sub-if2 c = search needs
-
 mul-if2 : tie.Need-mul-if2
 mul-if2 c = search needs
 
@@ -20,16 +14,16 @@ add-if2 : tie.Need-add-if2
 add-if2 c = search needs
 
 mul-if2-2 : tie.Need-mul-if2-2
-mul-if2-2 c = omega (arith, few-counted _ _ _ (c .before .before .before .before .pre))
+mul-if2-2 c = omega (arith, few-counted _ _ (c .before .before .before .pre))
 
 add-if2-2 : tie.Need-add-if2-2
-add-if2-2 c = omega (arith, few-counted _ _ _ (c .before .before .before .before .pre))
+add-if2-2 c = omega (arith, few-counted _ _ (c .before .before .before .pre))
 
 see-answers-requires : tie.Need-see-answers-requires
 see-answers-requires c κs = search needs
 
 produce-requires : tie.Need-produce-requires
-produce-requires c κs = search needs
+produce-requires c κs = counted-clean _ _ (c .before .before .before .before .before .before .pre)
 
 report-of-requires : tie.Need-report-of-requires
 report-of-requires c κs = search needs
@@ -40,20 +34,20 @@ same-length c = search needs
 returns : tie.Need-returns
 returns c =
     text-written _ _ _ _ _ _ (c .before .before .before .produce .ensures .1) _ (c .report-of .ensures)
-    (text-fits _ _ _ _ _ _ (c .before .before .before .produce .ensures .1) _ _ _ (c .before .before .before .before .before .before .before .before .before .before .before .pre) (c .before .before .before .before .before .before .before .before .behind-phrases .ensures .0) (c .before .before .before .before .before .see-answers .ensures) (omega arith))
+    (text-fits _ _ _ _ _ _ (c .before .before .before .produce .ensures .1) _ (c .before .before .before .before .before .before .before .before .before .before .pre) (c .before .before .before .before .before .see-answers .ensures) (omega arith))
     (omega arith)
 
 slice-aggregate-produce : tie.Need-slice-aggregate-produce
 slice-aggregate-produce c = search needs
 
 produce-requires-2 : tie.Need-produce-requires-2
-produce-requires-2 c κs = search needs
+produce-requires-2 c κs = counted-clean _ _ (c .before .before .before .before .pre)
 
 returns-2 : tie.Need-returns-2
 returns-2 c = too-short _ _ _ _ _ _ (c .before .before .produce2 .ensures .1) _ (omega arith)
 
 produce-requires-3 : tie.Need-produce-requires-3
-produce-requires-3 c κs = search needs
+produce-requires-3 c κs = counted-clean _ _ (c .before .before .before .before .before .before .before .before .pre)
 
 report-of-requires-2 : tie.Need-report-of-requires-2
 report-of-requires-2 c κs = search needs
@@ -70,8 +64,6 @@ pub write-spec : {M : Type 1} → statement M
 write-spec =
     tie.close
     (tie.spec
-    behind-phrases-requires
-    sub-if2
     mul-if2
     add-if2
     mul-if2-2

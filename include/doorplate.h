@@ -1,4 +1,5 @@
-/* doorplate: door-plate guides for C. The five calls of the paper "Door-plate guides: text, plate and run" (document 01).
+/* doorplate: door-plate guides for C. The five calls of the paper "Door-plate guides: text, plate and run" (document 01),
+ * with the requests d, h and l of document 02, "Later changes to the base".
  *
  * Every call is proved, for every content and length of its inputs and every lent buffer, to answer and to leave in the buffer exactly
  * what its definition says (docs/DEFINITIONS.md, "The C library"). No call has a precondition of its own. What C has to see to:
@@ -52,7 +53,7 @@ typedef struct {
  * is 11 with place 0, and is left as it was. Bytes behind the result stay as they were. book is the phrase book: up to 256 different texts,
  * each ended by LF; it may be empty. */
 
-/* The plate of a guide. Refusals: 1 to 7, 9, 10, 11. */
+/* The plate of a guide. Refusals: 1 to 7, 9, 10, 11; a phrase line is 6. */
 doorplate_written doorplate_translate(const uint8_t *guide, size_t guide_length, const uint8_t *book, size_t book_length,
                                       uint8_t *plate, size_t plate_length);
 
@@ -64,7 +65,7 @@ doorplate_written doorplate_write_plate(const uint8_t *listing, size_t listing_l
 doorplate_written doorplate_read_plate(const uint8_t *plate, size_t plate_length, const uint8_t *book, size_t book_length,
                                        uint8_t *listing, size_t listing_length);
 
-/* The transcript of a guide, walked from its text on the answers. Refusals: 1 to 7, 9, 11. */
+/* The transcript of a guide, walked from its text on the answers. Refusals: 1 to 7, 9, 11; a phrase line is 6. */
 doorplate_ran doorplate_walk(const uint8_t *guide, size_t guide_length, const uint8_t *book, size_t book_length,
                              const int32_t *answers, size_t answers_length, uint8_t *transcript, size_t transcript_length);
 

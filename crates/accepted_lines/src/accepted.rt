@@ -1,4 +1,4 @@
-// One line by itself that is known to have none of the causes 3, 4 and 5: its bytes, numbers and texts are not judged again.
+// One line that is known to have no cause by itself: its bytes, numbers and texts are not judged again.
 ghost use mathlib.Core.Path.{_≡_};
 ghost use mathlib.Core.Bool.{true};
 ghost use mathlib.Core.List.{[]};

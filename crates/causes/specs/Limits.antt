@@ -1,4 +1,4 @@
--- The limits of document 01, each once. The cause of what goes past a limit stands beside it.
+-- The limits of document 01, each once, with the cause of what goes past it.
 use Prim.Native.Nat.{ℕ}
 
 -- "up to 256 different texts": 1
@@ -33,6 +33,6 @@ mostPlateBytes = 2953
 abbrev pub mostPlateBits : ℕ
 mostPlateBits = 23624
 
--- "SKIP 0 to 511": so many, which are 9 bits
+-- "SKIP 0 to 511", which are 9 bits: 5
 abbrev pub skips : ℕ
 skips = 512

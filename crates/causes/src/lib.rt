@@ -19,7 +19,7 @@ pub enum Cause {
     Kind,
     // Field value outside its rule.
     Value,
-    // Phrase late, 33rd, or repeated.
+    // Phrase in a guide; in a listing late, 33rd, or repeated.
     Phrase,
     // else or fi without its if, second else, 17th level, if left open.
     Nesting,

@@ -13,5 +13,6 @@ pub const LEVELS: usize = 16;
 pub const INSTRUCTIONS: usize = 512;
 
 pub const PLATE_BYTES: usize = 2953;
+
 // SKIP is 0 to 511.
 pub const SKIPS: usize = 512;

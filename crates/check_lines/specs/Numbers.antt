@@ -6,7 +6,7 @@ use lib.ListN.{length, take, drop, getD, set}
 use Rattle.causes.specs.Limits.{mostOwn}
 use Rattle.phrases.specs.Lookup.{bookTexts}
 use Rattle.phrases.specs.Index.{entriesAt, Indexed}
-use Rattle.phrases.specs.Own.{ownNumber, OwnNumbers, OwnKept}
+use Rattle.phrases.specs.Own.{ownPlaces, ownNumber, OwnNumbers, OwnKept}
 use Rattle.lines.specs.declared.Form.{Form}
 use Rattle.lines.specs.declared.Form.the-variants.{Guide, Listing}
 use Rattle.lines.specs.declared.Head.{Head}
@@ -35,7 +35,7 @@ ownRoom Listing = mostOwn
 -- what the number of own phrase k takes
 pub record Enters (k a e : ℕ) (text index : List ℕ) : Type 0 where
   pub place : entriesAt + getD index 0 0 + k < length index
-  pub near : a + 7 < 4096
+  pub near : a + 7 < ownPlaces
   pub start : a + 7 ≤ e
   pub end : e ≤ length text
   pub short : e < a + 135
@@ -48,6 +48,6 @@ pub record Numbered (form : Form) (book text first index : List ℕ) (own n a : 
   pub room : entriesAt + ownRoom form + length (bookTexts book) ≤ length index
   pub numbers : OwnNumbers index book text own
   pub kept : OwnKept book first index
-  pub few : own ≤ 32
+  pub few : own ≤ mostOwn
   pub among : own ≤ n
   pub near : n ≡ own → a ≤ 72 * n

@@ -26,7 +26,7 @@ use lines::Checked;
 use lines::Form;
 
 // A guide or listing against this book, of which there is an index: 2 before the lines, then line by line, and 7 at the end. The numbers of
-// its own phrases stand behind the index afterwards.
+// a listing's own phrases stand behind the index afterwards; a guide has none.
 pub fn check(form: Form, index: &mut [u32], book: &[u8], text: &[u8]) -> Checked
     requires { ⌜ Indexed (now index) (now book) × (entriesAt + ownRoom form + length (bookTexts (now book)) ≤ length (now index)) ⌝ }
     ensures { λ r. ⌜ r ≡ checkedAnswer (seenIn form (bookTexts (now (book .entry))) (now (text .entry))) ⌝ }

@@ -46,7 +46,7 @@ pub fn cause_of(
     }
 }
 
-// 6: a phrase behind an instruction, the 33rd, or one that is in the book or among the own phrases.
+// 6 in a listing: a phrase behind an instruction, the 33rd, or one that is in the book or among the own phrases.
 fn phrase_fault(index: &[u32], book: &[u8], text: &[u8], phrase: &[u8], s: Seen) -> Fault
     requires { ⌜ Indexed (now index) (now book) × OwnNumbers (now index) (now book) (now text) (s .own) ⌝ }
     ensures { λ r. ⌜ r ≡ faultAnswer (check.phraseCause (bookTexts (now (book .entry))) (seenWith (now (text .entry)) s []) (now (phrase .entry))) ⌝ }

@@ -2,7 +2,7 @@
 use Prim.Native.Nat.{ℕ, _+_, _≤_, _<_}
 use mathlib.Core.Path.{_≡_}
 use mathlib.Core.List.{List}
-use Rattle.causes.specs.Limits.{skips}
+use Rattle.causes.specs.Limits.{mostPlateBits, skips}
 use Rattle.bits.specs.Ahead.{aheadIn}
 use Rattle.transcript.specs.Statement.{input, inputs, print, printex}
 use Rattle.phrases.specs.Phrases.{Phrases}
@@ -30,7 +30,7 @@ HeadFits plate (Inputs r bit) = r < 32
 HeadFits plate (Print bit) = Unit
 HeadFits plate (Printex bit) = Unit
 HeadFits plate (Goto k next) = k < skips
-HeadFits plate (IfSkip bit ahead) = (bit ≤ 23624) × (ahead ≡ aheadIn plate bit)
+HeadFits plate (IfSkip bit ahead) = (bit ≤ mostPlateBits) × (ahead ≡ aheadIn plate bit)
 
 -- the instruction that was read; nothing asks it of a refusal
 abbrev pub instructionOf : Read Instruction → Instruction

@@ -47,7 +47,7 @@ nothingSeen = record { own = []; instructions = 0; ifs = [] }
 abbrev pub roomCause : Seen → Option Cause
 roomCause s = cond (ltb (s .instructions) mostInstructions) none (some Instructions)
 
--- "phrase late, 33rd, or repeated": 6. A line of another kind came before where there is an instruction, since the first such
+-- in a listing, "phrase late, 33rd, or repeated": 6. A line of another kind came before where there is an instruction, since the first such
 -- line that is no fault is one
 abbrev pub phraseCause : List Text → Seen → Text → Option Cause
 phraseCause book s t =

@@ -1,7 +1,7 @@
 // The lines of a guide and of a listing: one line by itself, and the check over the lines. Definitions and their laws, no code.
-// specs/Line.antt says what a line is, with its cause 3, 4 or 5; specs/Check.antt what the check finds; specs/Clean.antt which lines have
-// none of these causes. The types are those of the code in line_reader (any line, judged), accepted_lines (a line that has none of these
-// causes, read again) and check_lines (the check), whose contracts say the whole answer by these definitions.
+// specs/Line.antt says what a line is, with its cause 3, 4, 5 or, in a guide, 6; specs/Check.antt what the check finds; specs/Clean.antt
+// which lines have none of these causes. The types are those of the code in line_reader (any line, judged), accepted_lines (a line that has
+// none of these causes, read again) and check_lines (the check), whose contracts say the whole answer by these definitions.
 use causes::Cause;
 use causes::Refusal;
 use transcript::Test;

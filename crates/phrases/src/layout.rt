@@ -11,7 +11,7 @@ pub const SECOND_ENTRY_AT: usize = 130;
 // An index of any book. One of no texts has no entries.
 pub const BOOK_NUMBERS: usize = 385;
 
-// The same two with room for the numbers of 32 own phrases.
+// BOOK_NUMBERS and ENTRIES_AT, with room for the numbers of 32 own phrases.
 pub const INDEX_NUMBERS: usize = 417;
 
 pub const EMPTY_INDEX_NUMBERS: usize = 161;

@@ -1,4 +1,4 @@
-// Phrases: definitions of the lent phrase book, of a guide's or plate's own phrases and of the place of a text among both, with their laws;
+// Phrases: definitions of the lent phrase book, of a listing's or plate's own phrases and of the place of a text among both, with their laws;
 // the index of a book, read; the width of a place.
 // specs/Book.antt says what a book holds and which line is its first bad one; specs/Phrases.antt how a text is found, and how many
 // bits a place takes; specs/Lookup.antt where the phrases stand: the book's lines, and the first lines `phrase,TEXT` of another text;

@@ -1,6 +1,6 @@
 -- 32768 more, the remainder by 65536, 32768 less: that is the two's complement of 16 bits.
 use Prim.Native.Nat.{ℕ, suc, _+_, _-_, _%_, _<_}
-use mathlib.Core.Path.{_≡_, refl, sym, ap, _∙_}
+use mathlib.Core.Path.{_≡_, refl}
 use mathlib.Core.Bool.{Bool, true, false, cond}
 use native.Mathlib.Omega.{arith}
 use lib.Dec.{ltb}

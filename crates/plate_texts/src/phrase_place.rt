@@ -5,7 +5,7 @@ ghost use mathlib.Core.Bool.{true, false};
 ghost use Prim.Native.Nat.{_+_, _*_, _≤_, _<_};
 ghost use lib.ListN.{length, getD};
 ghost use lib.Dec.{ltb};
-ghost use Rattle.causes.specs.Limits.{mostPlateBits, mostPlateBytes};
+ghost use Rattle.causes.specs.Limits.{mostPhrases, mostPlateBits, mostPlateBytes};
 ghost use Rattle.causes.specs.declared.Cause.the-variants.{Unused};
 ghost use Rattle.bits.specs.Ahead.{aheadIn, partAhead};
 ghost use Rattle.output.specs.Pour.{upTo};
@@ -23,7 +23,7 @@ use fields::plain_ahead;
 
 // The place of a phrase among n, in the fewest bits that number them, k bits behind the code.
 fn read_place(plate: &[u8], ahead: usize, at: usize, k: usize, n: usize) -> Field
-    requires { ⌜ (length (now plate) ≤ mostPlateBytes) × (ahead ≡ aheadIn (now plate) at) × (at + k < 18446744073709551616) × (k ≤ 3) × (n ≤ 256) ⌝ }
+    requires { ⌜ (length (now plate) ≤ mostPlateBytes) × (ahead ≡ aheadIn (now plate) at) × (at + k < 18446744073709551616) × (k ≤ 3) × (n ≤ mostPhrases) ⌝ }
     ensures { λ r. ⌜ fieldRead (now (plate .entry)) r ≡ judged (number (width n)) (λ i. ltb i n) Unused (placeAt (now (plate .entry)) (at + k)) ⌝ }
 {
     let field = plain_ahead(plate, ahead, at, k, phrases::width_of(n));
@@ -117,7 +117,7 @@ pub struct PhraseAt {
 
 // A phrase of a source of n, whose place stands k bits behind the code.
 fn place_ahead(ahead: usize, at: usize, k: usize, own: bool, n: usize) -> PhraseAt
-    requires { ⌜ (at ≤ mostPlateBits) × (k ≤ 3) × (n ≤ 256) ⌝ }
+    requires { ⌜ (at ≤ mostPlateBits) × (k ≤ 3) × (n ≤ mostPhrases) ⌝ }
     ensures { λ r. ⌜ (r .own ≡ own) × (r .place ≡ partAhead k (width n) ahead) × (r .next ≡ at + k + width n) ⌝ }
 {
     let width = phrases::width_of(n);

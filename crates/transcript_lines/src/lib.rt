@@ -14,7 +14,7 @@ pub const ASKED: u8 = b'Q';
 
 pub const OFFERED: u8 = b'C';
 
-pub const ANSWERED: u8 = b'A';
+const ANSWERED: u8 = b'A';
 
 pub const SHOWN: u8 = b'S';
 

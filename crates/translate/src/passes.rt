@@ -15,7 +15,8 @@ ghost use Rattle.assemble.specs.LineCode.{programIn};
 ghost use Rattle.assemble.specs.Assembled.{Counted, lentProgram};
 ghost use Rattle.translate.specs.Lengths.{skipTable};
 
-// First the skips are counted into the table, and then the plate is made, line by line: `instructions` is what the check counts. A guide has no own phrases.
+// First the skips are counted into the table, and then the plate is made, line by line: `instructions` is what the check counts.
+// A guide has no own phrases.
 pub fn write(
     guide: &[u8],
     index: &[u32],

@@ -3,20 +3,22 @@ ghost use mathlib.Core.Path.{_≡_};
 ghost use mathlib.Core.Bool.{true, false};
 ghost use Prim.Native.Nat.{_+_, _≤_, _<_};
 ghost use lib.ListN.{length, take, drop, getD, set};
-ghost use Rattle.phrases.specs.Index.{Indexed};
-ghost use Rattle.phrases.specs.Own.{ownNumber, OwnNumbers};
+ghost use Rattle.phrases.specs.Index.{entriesAt, Indexed};
+ghost use Rattle.phrases.specs.Own.{ownPlaces, ownSizes, ownNumber, OwnNumbers};
+use phrases::OWN_PLACES;
+use phrases::OWN_SIZES;
 
 // Enters the number of own phrase k, whose text is this one, where that stands at the place; else answers false.
 fn enter_at(index: &mut [u32], own: &[u8], k: usize, start: usize, text: &[u8]) -> bool
-    requires { ⌜ 129 + getD (now index) 0 0 + k < length (now index) ⌝ }
+    requires { ⌜ entriesAt + getD (now index) 0 0 + k < length (now index) ⌝ }
     ensures { λ r. ⌜ (r ≡ false → now (index .exit) ≡ now (index .entry)) ⌝ }
-    ensures { λ r. ⌜ (r ≡ true → now (index .exit) ≡ set (now (index .entry)) (129 + getD (now (index .entry)) 0 0 + k) (ownNumber start (now (text .entry)))) ⌝ }
-    ensures { λ r. ⌜ (r ≡ true → (start < 4096) × (length (now (text .entry)) < 128) × (start + length (now (text .entry)) ≤ length (now (own .entry))) × (take (length (now (text .entry))) (drop start (now (own .entry))) ≡ now (text .entry))) ⌝ }
+    ensures { λ r. ⌜ (r ≡ true → now (index .exit) ≡ set (now (index .entry)) (entriesAt + getD (now (index .entry)) 0 0 + k) (ownNumber start (now (text .entry)))) ⌝ }
+    ensures { λ r. ⌜ (r ≡ true → (start < ownPlaces) × (length (now (text .entry)) < ownSizes) × (start + length (now (text .entry)) ≤ length (now (own .entry))) × (take (length (now (text .entry))) (drop start (now (own .entry))) ≡ now (text .entry))) ⌝ }
 {
-    if 4096 <= start {
+    if OWN_PLACES <= start {
         return false;
     }
-    if 128 <= text.len() {
+    if OWN_SIZES <= text.len() {
         return false;
     }
     let end = start + text.len();

@@ -32,7 +32,7 @@ fn report(transcript: &[u8], r: Report) {
 
 // What is printed of the walk.
 fn print(guide: &[u8], book: &[u8], answers: &[i32]) {
-    let mut transcript = [0; 327680];
+    let mut transcript = [0; tools::TRANSCRIPT];
     match walk::walk(guide, book, answers, &mut transcript) {
         Ran::Refused(r) => refuse(r),
         Ran::Done(r) => report(&transcript, r),
@@ -45,7 +45,7 @@ fn walk_on(guide: &[u8]) {
     let Input::Holds(length) = tools::read_file(2, &mut book) else {
         return;
     };
-    let mut answers = [0; 512];
+    let mut answers = [0; tools::ANSWERS];
     let Input::Holds(count) = tools::read_answers(3, &mut answers) else {
         return;
     };
@@ -64,7 +64,7 @@ fn main() {
         );
         return;
     }
-    let mut guide = [0; 16385];
+    let mut guide = [0; tools::GUIDE];
     let Input::Holds(length) = tools::read_file(1, &mut guide) else {
         return;
     };

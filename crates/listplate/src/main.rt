@@ -41,7 +41,7 @@ fn main() {
         );
         return;
     }
-    let mut listing = [0; 327681];
+    let mut listing = [0; tools::LISTING];
     let Input::Holds(size) = tools::read_file(1, &mut listing) else {
         return;
     };

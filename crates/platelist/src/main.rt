@@ -39,7 +39,7 @@ fn main() {
         );
         return;
     }
-    let mut plate = [0; 2954];
+    let mut plate = [0; tools::PLATE];
     let Input::Holds(size) = tools::read_plate(1, &mut plate) else {
         return;
     };

@@ -33,7 +33,7 @@ fn report(transcript: &[u8], r: Report) {
 // What is printed of the run.
 fn print(plate: &[u8], book: &[u8], answers: &[i32]) {
     let mut scratch = [0; run::SCRATCH_NUMBERS];
-    let mut transcript = [0; 327680];
+    let mut transcript = [0; tools::TRANSCRIPT];
     match run::run(plate, book, answers, &mut scratch, &mut transcript) {
         Ran::Refused(r) => refuse(r),
         Ran::Done(r) => report(&transcript, r),
@@ -46,7 +46,7 @@ fn run_on(plate: &[u8]) {
     let Input::Holds(length) = tools::read_file(2, &mut book) else {
         return;
     };
-    let mut answers = [0; 512];
+    let mut answers = [0; tools::ANSWERS];
     let Input::Holds(count) = tools::read_answers(3, &mut answers) else {
         return;
     };
@@ -65,7 +65,7 @@ fn main() {
         );
         return;
     }
-    let mut plate = [0; 2954];
+    let mut plate = [0; tools::PLATE];
     let Input::Holds(length) = tools::read_plate(1, &mut plate) else {
         return;
     };

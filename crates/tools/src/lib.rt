@@ -15,6 +15,19 @@ use libc::STDERR_FILENO;
 // and is bad as a last line without LF.
 pub const BOOK: usize = 16641;
 
+// How many bytes of a guide, of a listing and of a plate are enough: one more than each may have, which is refused as any longer one.
+pub const GUIDE: usize = 16385;
+
+pub const LISTING: usize = 327681;
+
+pub const PLATE: usize = 2954;
+
+// How many answers are enough: no walk or run takes more.
+pub const ANSWERS: usize = 512;
+
+// A transcript that no walk or run exceeds.
+pub const TRANSCRIPT: usize = 327680;
+
 // What reading finds: how many bytes or answers stand at the front of the lent space, or that something cannot be read, which has
 // been told.
 pub enum Input {

@@ -4,6 +4,7 @@
 use causes::Ran;
 use causes::Report;
 use causes::Written;
+use causes::limits::PLATE_BYTES;
 use libc::STDOUT_FILENO;
 use printed::front;
 
@@ -63,7 +64,7 @@ fn call(
     first: &mut [u8],
     second: &mut [u8],
 ) -> usize {
-    let mut plate = [0u8; 2953];
+    let mut plate = [0u8; PLATE_BYTES];
     let mut scratch = [0u16; run::SCRATCH_NUMBERS];
     if let Written::Refused(r) = translate::translate(guide, book, &mut plate) {
         return vectors_lines::put_written(line, 0, Written::Refused(r), &[]);

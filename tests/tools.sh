@@ -5,7 +5,6 @@
 set -u
 cd "$(dirname "$0")/.." || exit 1
 PATH=$PWD/target/bin:$PATH
-book=examples/relay.book
 room=$(mktemp -d) || exit 1
 trap 'rm -rf "$room"' EXIT
 
@@ -25,6 +24,7 @@ replay() {
 }
 
 # The answers of a file of the folder examples, each list with what a tool writes on it now: answered TOOL FILE RUNS.
+# The book is the guide's own, or relay.book.
 answered() {
     sed -n 's/^answers//p' "$3" | while IFS= read -r answers; do
         echo "answers$answers"
@@ -42,6 +42,8 @@ done
 
 for runs in examples/*.run; do
     name=${runs%.run}
+    book=$name.book
+    [ -e "$book" ] || book=examples/relay.book
     sed '$d' "$name.show" >"$room/listing"
     sed -n '$p' "$name.show" >"$room/shown"
     listplate "$room/listing" "$book" >"$room/plate"

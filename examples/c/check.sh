@@ -6,12 +6,14 @@ set -eu
 program=$(realpath "$1")
 cd "$(dirname "$0")/.."
 
-# The runs of a guide, in the form of its file NAME.run, whose lists of answers are taken.
+# The runs of a guide, in the form of its file NAME.run, whose lists of answers are taken. The book is NAME.book, or relay.book.
 runs() { # NAME
+    book=$1.book
+    [ -e "$book" ] || book=relay.book
     sed -n 's/^answers//p' "$1.run" | while IFS= read -r list; do
         echo "answers$list"
         # shellcheck disable=SC2046
-        "$program" "$1.guide" relay.book $(echo "$list" | tr ',' ' ')
+        "$program" "$1.guide" "$book" $(echo "$list" | tr ',' ' ')
     done
 }
 

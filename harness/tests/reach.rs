@@ -39,6 +39,7 @@ impl Met {
         let accepted = answer.is_accepted();
         let lines = |bytes: &[u8]| bytes.iter().filter(|&&byte| byte == b'\n').count();
         self.add("book", lines(&case.book));
+        self.letters(case, accepted);
         match case.call {
             Call::Translate | Call::Walk => self.guide(case, &answer),
             Call::WritePlate => self.listing(case, accepted),
@@ -47,6 +48,24 @@ impl Met {
         }
         if case.call == Call::Run {
             self.add("scratch", case.scratch);
+        }
+    }
+
+    /// Letters beyond ASCII: in an accepted input and book by their bytes, ill formed in one that is refused.
+    fn letters(&mut self, case: &Case, accepted: bool) {
+        let plate = matches!(case.call, Call::ReadPlate | Call::Run);
+        for (what, bytes) in [("input letters", &case.input), ("book letters", &case.book)] {
+            match std::str::from_utf8(bytes) {
+                Ok(text) if accepted && (!plate || what == "book letters") => {
+                    text.chars().for_each(|letter| self.add(what, letter.len_utf8()));
+                }
+                Err(_) if !accepted && !plate => self.add(what, 0),
+                _ => {}
+            }
+        }
+        if plate && accepted {
+            let listing = model::read_plate(&case.input, &case.book).expect("an accepted plate");
+            self.add("plate letters", usize::from(!listing.is_ascii()));
         }
     }
 
@@ -78,41 +97,52 @@ impl Met {
     }
 }
 
+/// The limits, and what stands one past them.
+const LIMITS: [(&str, usize); 37] = [
+    ("book", 0),
+    ("book", 256),
+    ("book", 257),
+    ("guide", 16_384),
+    ("refused guide", 16_385),
+    ("listing", 327_680),
+    ("listing", 327_681),
+    ("plate", 2_953),
+    ("refused plate", 2_953),
+    ("refused plate", 2_954),
+    ("instructions", 512),
+    ("refused instructions", 513),
+    ("own", 32),
+    ("refused own", 33),
+    ("phrase line", 1),
+    ("phrase line", 2),
+    ("levels", 16),
+    ("levels", 17),
+    ("text", 64),
+    ("text", 65),
+    ("scratch", 0),
+    ("scratch", 1),
+    ("scratch", SCRATCH - 1),
+    ("scratch", SCRATCH),
+    ("scratch", SCRATCH + 1),
+    ("scratch", 511),
+    ("scratch", 512),
+    ("scratch", 600),
+    ("input letters", 0),
+    ("input letters", 2),
+    ("input letters", 3),
+    ("input letters", 4),
+    ("book letters", 0),
+    ("book letters", 2),
+    ("book letters", 3),
+    ("book letters", 4),
+    ("plate letters", 1),
+];
+
 #[test]
 fn every_limit_is_reached() {
     let mut met = Met::default();
     (0..60_000).map(|number| generate::case(12, number)).for_each(|case| met.case(&case));
-    let limits = [
-        ("book", 0),
-        ("book", 256),
-        ("book", 257),
-        ("guide", 16_384),
-        ("refused guide", 16_385),
-        ("listing", 327_680),
-        ("listing", 327_681),
-        ("plate", 2_953),
-        ("refused plate", 2_953),
-        ("refused plate", 2_954),
-        ("instructions", 512),
-        ("refused instructions", 513),
-        ("own", 32),
-        ("refused own", 33),
-        ("phrase line", 1),
-        ("phrase line", 2),
-        ("levels", 16),
-        ("levels", 17),
-        ("text", 64),
-        ("text", 65),
-        ("scratch", 0),
-        ("scratch", 1),
-        ("scratch", SCRATCH - 1),
-        ("scratch", SCRATCH),
-        ("scratch", SCRATCH + 1),
-        ("scratch", 511),
-        ("scratch", 512),
-        ("scratch", 600),
-    ];
-    for limit in limits {
+    for limit in LIMITS {
         assert!(met.0.contains_key(&limit), "{limit:?} is not reached");
     }
 }

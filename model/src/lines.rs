@@ -24,7 +24,8 @@ impl<'a> Lines<'a> {
         Lines { rest: text, number: 0, fields: Vec::new() }
     }
 
-    /// The next line if there is one; a byte not allowed or no LF is 3.
+    /// The next line if there is one; a byte not allowed, an ill-formed letter or
+    /// no LF is 3.
     pub fn next_line(&mut self) -> Result<Option<Line<'_, 'a>>, Refusal> {
         if self.rest.is_empty() {
             return Ok(None);
@@ -35,7 +36,7 @@ impl<'a> Lines<'a> {
         };
         let line = &self.rest[..end];
         self.rest = &self.rest[end + 1..];
-        if !line.iter().all(|&byte| text::is_line_byte(byte)) {
+        if !text::is_line(line) {
             return refuse(cause::BYTE, self.number);
         }
         self.fields.clear();
@@ -59,7 +60,7 @@ impl<'a> Line<'_, 'a> {
     /// Reads a line of a shared kind; any other line is 4.
     pub fn shared(&self) -> Result<Shared<'a>, Refusal> {
         let action = match *self.fields {
-            [b"phrase", text] => return Ok(Shared::Phrase(self.text(text)?)),
+            [b"phrase", text] => return Ok(Shared::Phrase(self.own_phrase(text)?)),
             [b"input", register, text] => {
                 Action::Input { register: self.register(register)?, text: self.text(text)? }
             }
@@ -102,13 +103,23 @@ impl<'a> Line<'_, 'a> {
         }
     }
 
-    /// A text. The bytes of the line are judged before, and a field has no comma.
+    /// A text. The bytes and letters of the line are judged before, and a field
+    /// has no comma.
     fn text(&self, field: &'a [u8]) -> Result<&'a [u8], Refusal> {
         if text::is_length(field.len()) {
             Ok(field)
         } else {
             self.refuse(cause::FIELD)
         }
+    }
+
+    /// An own phrase keeps the old characters: another byte in one is 5.
+    fn own_phrase(&self, field: &'a [u8]) -> Result<&'a [u8], Refusal> {
+        let text = self.text(field)?;
+        if !text::is_plain(text) {
+            return self.refuse(cause::FIELD);
+        }
+        Ok(text)
     }
 
     fn options(&self, fields: &[&'a [u8]]) -> Result<Vec<&'a [u8]>, Refusal> {

@@ -49,6 +49,7 @@ fn text_case(cursor: &mut Cursor) -> text::Case {
             let from = cursor.long_number();
             Case::Find { from, byte: byte(cursor.number()), bytes: cursor.slice() }
         }
+        10 => Case::WellFormed { bytes: cursor.slice() },
         kind => panic!("no kind {kind}"),
     }
 }
@@ -226,11 +227,18 @@ fn lines_of_text() {
         (Case::Text { bytes: bytes("a,b") }, "Y,N\n"),
         (Case::Text { bytes: bytes("") }, "Y,N\n"),
         (Case::Text { bytes: vec![127] }, "N,N\n"),
+        (Case::Text { bytes: bytes("é") }, "Y,Y\n"),
+        (Case::Text { bytes: vec![0xC3] }, "Y,N\n"),
+        (Case::Text { bytes: vec![0xA9, 0xC3] }, "Y,N\n"),
+        (Case::Text { bytes: vec![0xC3, 31] }, "N,N\n"),
         (Case::Parts { by: b',', bytes: bytes("ab,,c") }, "3,6162,,63,\n"),
         (Case::Parts { by: b',', bytes: bytes("") }, "1,,\n"),
         (Case::Texts { from: 1, bytes: bytes(",a,b") }, "Y\n"),
         (Case::Texts { from: 0, bytes: bytes(",a,b") }, "N\n"),
         (Case::Texts { from: 3, bytes: bytes(",a,b") }, "Y\n"),
+        (Case::Texts { from: 1, bytes: bytes(",é,b") }, "Y\n"),
+        (Case::Texts { from: 1, bytes: b"\xC3,a,\xA9".to_vec() }, "N\n"),
+        (Case::Texts { from: 1, bytes: b"\xC3,a,b".to_vec() }, "Y\n"),
         (Case::Natural { limit: 31, bytes: bytes("31") }, "Y,31\n"),
         (Case::Natural { limit: 31, bytes: bytes("32") }, "N\n"),
         (Case::Natural { limit: 31, bytes: bytes("07") }, "N\n"),
@@ -243,6 +251,9 @@ fn lines_of_text() {
         (Case::Same { one: bytes("ab"), other: bytes("abc") }, "N\n"),
         (Case::Find { from: 1, byte: b'a', bytes: bytes("aba") }, "2\n"),
         (Case::Find { from: 1, byte: b'c', bytes: bytes("aba") }, "3\n"),
+        (Case::WellFormed { bytes: bytes("") }, "Y\n"),
+        (Case::WellFormed { bytes: bytes("a\n\0é€😀") }, "Y\n"),
+        (Case::WellFormed { bytes: b"\xED\xA0\x80".to_vec() }, "N\n"),
     ];
     for (case, line) in lines {
         assert_eq!(case.answer(), line, "{case:?}");
@@ -262,8 +273,8 @@ fn texts_of_all_kinds() {
             assert!(lent <= 256);
         }
     }
-    assert_eq!(seen.iter().filter(|(_, first)| *first == b'Y').count(), 5);
-    assert_eq!(seen.iter().filter(|(_, first)| *first == b'N').count(), 5);
+    assert_eq!(seen.iter().filter(|(_, first)| *first == b'Y').count(), 6);
+    assert_eq!(seen.iter().filter(|(_, first)| *first == b'N').count(), 6);
     let kinds: HashSet<_> = seen.into_iter().map(|(kind, _)| kind).collect();
-    assert_eq!(kinds.len(), 10);
+    assert_eq!(kinds.len(), 11);
 }

@@ -63,4 +63,9 @@ tests_of_groups! {
     plate_characters plate_text_lengths plate_own_phrases plate_counts plate_codes plate_texts
     plate_skips plate_filling plate_order
     plate_cuts
+    letters_on_lines ill_formed_lines parted_letters letters_in_fields letters_in_own_phrases
+    letters_in_order letters_at_limits
+    letters_in_books bad_letters_in_books letter_lengths letters_of_phrases
+    plate_letters plate_ill_formed plate_bytes plate_letter_lengths plate_codes_of_texts
+    plate_letters_in_order plates_full_of_letters
 }

@@ -99,7 +99,7 @@ fn check_rooms(
     assert_eq!((run, &run_out), (expected, &expected_out));
 }
 
-const GUIDE_FEATURES: [&str; 17] = [
+const GUIDE_FEATURES: [&str; 21] = [
     "outcome Verdict",
     "outcome End",
     "outcome Waiting",
@@ -117,6 +117,10 @@ const GUIDE_FEATURES: [&str; 17] = [
     "ge",
     "lowest constant",
     "highest constant",
+    "letters of 2 bytes",
+    "letters of 3 bytes",
+    "letters of 4 bytes",
+    "letters in the book",
 ];
 
 /// Counts what an accepted guide has.
@@ -148,19 +152,41 @@ fn count_guide(counts: &mut Counts, guide: &[u8], book: &[u8], record: &Record) 
     counts.add_if(highest == 16, "16 levels");
     counts.add_if(instructions == 512, "512 instructions");
     counts.add_if(in_book == 256, "256 phrases in the book");
+    count_letters(counts, guide);
+    counts.add_if(!book.is_ascii(), "letters in the book");
 }
 
-/// Where an accepted listing has own phrases, and how many.
-const OWN_FEATURES: [&str; 4] =
-    ["no own phrase", "1 own phrase", "32 own phrases", "own phrases and a book"];
+/// Counts the lengths of the letters that an accepted guide or listing has.
+fn count_letters(counts: &mut Counts, lines: &[u8]) {
+    let lines = std::str::from_utf8(lines).expect("letters");
+    for (length, what) in
+        [(2, "letters of 2 bytes"), (3, "letters of 3 bytes"), (4, "letters of 4 bytes")]
+    {
+        counts.add_if(lines.chars().any(|letter| letter.len_utf8() == length), what);
+    }
+}
 
-fn count_own(counts: &mut Counts, listing: &[u8], book: &[u8]) {
+/// Where an accepted listing has own phrases, how many, and letters beyond ASCII.
+const LISTING_FEATURES: [&str; 8] = [
+    "no own phrase",
+    "1 own phrase",
+    "32 own phrases",
+    "own phrases and a book",
+    "own phrases and letters",
+    "letters of 2 bytes",
+    "letters of 3 bytes",
+    "letters of 4 bytes",
+];
+
+fn count_listing(counts: &mut Counts, listing: &[u8], book: &[u8]) {
     let lines = listing.split(|&byte| byte == b'\n');
     let own = lines.take_while(|line| line.starts_with(b"phrase,")).count();
     counts.add_if(own == 0, "no own phrase");
     counts.add_if(own == 1, "1 own phrase");
     counts.add_if(own == 32, "32 own phrases");
     counts.add_if(own > 0 && !book.is_empty(), "own phrases and a book");
+    counts.add_if(own > 0 && !listing.is_ascii(), "own phrases and letters");
+    count_letters(counts, listing);
 }
 
 /// Every accepted listing, written and read back, is the same listing.
@@ -174,7 +200,7 @@ fn listing_round_trip() {
         let plate = model::write_plate(listing, book);
         if let Ok(plate) = &plate {
             assert_eq!(model::read_plate(plate, book).as_deref(), Ok(listing));
-            count_own(&mut counts, listing, book);
+            count_listing(&mut counts, listing, book);
         }
         counts.add_result(Call::WritePlate, &plate);
         let mut out = pattern(rng.below(60));
@@ -185,7 +211,7 @@ fn listing_round_trip() {
     }
     counts.print();
     counts.assert_causes_reached(Call::WritePlate);
-    counts.assert_reached(20, &OWN_FEATURES);
+    counts.assert_reached(20, &LISTING_FEATURES);
 }
 
 /// Every accepted plate, read and written again, is the same plate, and read
@@ -204,7 +230,7 @@ fn plate_round_trip() {
         if let (Ok(listing), Ok(record)) = (&listing, &record) {
             assert_eq!(model::write_plate(listing, book).as_deref(), Ok(plate));
             check_record(plate, book, &answers, record);
-            count_own(&mut counts, listing, book);
+            count_listing(&mut counts, listing, book);
         }
         counts.add_result(Call::ReadPlate, &listing);
         counts.add_result(Call::Run, &record);
@@ -219,5 +245,5 @@ fn plate_round_trip() {
     counts.print();
     counts.assert_causes_reached(Call::ReadPlate);
     counts.assert_causes_reached(Call::Run);
-    counts.assert_reached(20, &OWN_FEATURES);
+    counts.assert_reached(20, &LISTING_FEATURES);
 }

@@ -30,5 +30,5 @@ macro_rules! tests_of_groups {
 }
 
 tests_of_groups! {
-    outcomes choices comparisons registers_kept steps jumps longest_transcripts
+    outcomes choices comparisons registers_kept letters steps jumps longest_transcripts
 }

@@ -41,7 +41,7 @@ fn guides_and_causes() {
     assert_eq!(numbers, HashSet::from([0, 2, 3, 4, 5, 6, 7, 9, 10]));
     let accepted =
         |guide: &[u8]| cases.iter().any(|case| case.guide == guide && number(&case.answer()) == 0);
-    assert!(GUIDES.iter().all(|(_, guide)| accepted(guide)));
+    assert!(GUIDES.iter().all(|example| accepted(example.guide)));
     let longest = cases.iter().filter(|case| accepted(&case.guide)).map(|case| case.guide.len());
     assert_eq!(longest.max(), Some(11_023));
     let shown = |length, answer| {

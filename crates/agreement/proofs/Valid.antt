@@ -1,10 +1,11 @@
 -- The program of every accepted guide meets the rules.
 use Prim.Native.Nat.{ℕ, _≤_}
 use native.Mathlib.Omega.{arith}
-use mathlib.Core.Path.{_≡_}
+use mathlib.Core.Path.{_≡_, refl}
 use mathlib.Core.List.{List, [], _∷_, _++_}
 use lib.ListN.{length, length-append}
 use Rattle.causes.specs.Answers.{made}
+use Rattle.text.specs.Parts.{all}
 use Rattle.text.specs.Text.{Text}
 use Rattle.guide.specs.Block.{Block, empty, does, ifThen, ifElse, blockOf}
 use Rattle.guide.specs.Guide.{guideOf}
@@ -45,12 +46,13 @@ block-instructions (ifElse test t e b) h = (
 )
 
 pub guide-valid : (book : List Text) (text : List ℕ) (g : Block) → guideOf book text ≡ made g → ProgramOk book (translateGuide g)
-unfolding translateGuide
+unfolding translateGuide all
 guide-valid book text =
     guide-holds (λ g. ProgramOk book (translateGuide g)) book text (λ a e.
     let k = accepted-guide book text a e in
     record {
       phrases = tt;
+      plain = refl;
       few = omega arith;
       room = guide-counted book text a e .room;
       instructions = block-instructions (blockOf (a .lines)) (k .values);

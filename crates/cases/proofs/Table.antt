@@ -10,6 +10,7 @@ use Rattle.cases.specs.Guides.{guides}
 use Rattle.cases.specs.Listings.{listings}
 use Rattle.cases.specs.Plates.{plates}
 use Rattle.cases.specs.Runs.{runs}
+use Rattle.cases.specs.Letters.{letters}
 use Rattle.cases.specs.Table.{table}
 use Rattle.cases.proofs.Agree.{all-agree, agree-append}
 
@@ -37,6 +38,10 @@ runs-agree : allAgree runs ≡ true
 unfolding opened
 runs-agree = refl
 
+letters-agree : allAgree letters ≡ true
+unfolding opened
+letters-agree = refl
+
 pub cases : computed table ≡ worked table
 unfolding table
 cases =
@@ -44,4 +49,5 @@ cases =
     let p = agree-append _ guides p guides-agree in
     let p = agree-append _ listings p listings-agree in
     let p = agree-append _ plates p plates-agree in
-    all-agree table (agree-append _ runs p runs-agree)
+    let p = agree-append _ runs p runs-agree in
+    all-agree table (agree-append _ letters p letters-agree)

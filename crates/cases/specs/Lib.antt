@@ -7,4 +7,5 @@ pub mod Guides
 pub mod Listings
 pub mod Plates
 pub mod Runs
+pub mod Letters
 pub mod Table

@@ -1,5 +1,5 @@
 -- The refusals of read_plate and run, each at its exact bit, and beside a limit the plate that meets it. A plate is given by its bits,
--- field by field.
+-- field by field. Texts of code 01 are in Letters.antt.
 use mathlib.Core.List.{List, [], _∷_, _++_}
 use lib.ListN.{replicate}
 use Rattle.text.specs.Quoted.{bytes}
@@ -52,9 +52,8 @@ plates =
     ++ plateRefused (plate "0 0000000001 101 00000 110") [] 13 19
     ++ plateRefused (plate "0 0000000001 101 00000 111") [] 13 19
     ++ plateRefused (plate "0 0000000001 001 00000 00 1100001 0000011 111") [] 13 35
-    -- 13: codes 01 and 11 of a text; 10 with no phrases at all; codes 10 and 11 of a constant; a phrase that is not there: in the book,
+    -- 13: code 11 of a text; 10 with no phrases at all; codes 10 and 11 of a constant; a phrase that is not there: in the book,
     -- among the own with a book and with none
-    ++ plateRefused (plate "0 0000000001 010 01") [] 13 14
     ++ plateRefused (plate "0 0000000001 010 11") [] 13 14
     ++ plateRefused (plate "0 0000000001 010 10") [] 13 14
     ++ plateRefused (plate "0 0000000001 101 00000 000 10") [] 13 22
@@ -62,7 +61,7 @@ plates =
     ++ plateRefused (plate "0 0000000001 010 10 11") (bytes "a\nb\nc\n") 13 16
     ++ plateRefused (plate "1 00010 1100001 0000011 1100010 0000011 1100011 0000011 0000000001 010 10 1 11") (bytes "p\n") 13 64
     ++ plateRefused (plate "1 00010 1100001 0000011 1100010 0000011 1100011 0000011 0000000001 010 10 11") [] 13 63
-    -- 14: characters outside 32 to 126, and a comma, each at its own bit; not 126 and 32
+    -- 14: characters of 7 bits outside 32 to 126, and a comma, each at its own bit; not 126 and 32
     ++ plateRefused (plate "0 0000000001 010 00 0011111") [] 14 16
     ++ plateRefused (plate "0 0000000001 010 00 1111111") [] 14 16
     ++ plateRefused (plate "0 0000000001 010 00 0101100") [] 14 16

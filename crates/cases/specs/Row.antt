@@ -1,11 +1,11 @@
 -- A row of the table of cases: what a call gives by the definitions, and as worked by hand. With short names for texts, plates and buffers.
-use Prim.Native.Nat.{ℕ, zero, suc, _+_, _*_, _-_}
+use Prim.Native.Nat.{ℕ, zero, suc, _+_, _*_, _-_, _/_, _%_}
 use Prim.Native.Char.{code}
 use Prim.Native.String.{String, [] as nothing, _∷_ as _then_}
 use mathlib.Core.List.{List, [], _∷_, _++_}
 use mathlib.Core.Bool.{Bool, true, false, cond}
 use lib.ListN.{length, replicate}
-use lib.Dec.{eqb, leb}
+use lib.Dec.{eqb, leb, ltb}
 use lib.IntN.{ℤ}
 use Rattle.causes.specs.Answers.{Result, made, refused, Answer, wrote, ended, refusal}
 use Rattle.bits.specs.Bits.{pack}
@@ -56,6 +56,19 @@ unfoldable pub hex : String → List ℕ
 hex nothing = []
 hex (a then nothing) = []
 hex (a then b then s) = (hexDigit (code a) * 16 + hexDigit (code b)) ∷ hex s
+
+-- RFC 3629, section 3: the bytes of a character by its number, 7 bits in one byte, 11 in two, 16 in three, 21 in four
+abbrev pub encoded : ℕ → List ℕ
+encoded c =
+    cond (ltb c 0x80) (c ∷ [])
+    (cond (ltb c 0x800) ((0xC0 + c / 64) ∷ (0x80 + c % 64) ∷ [])
+    (cond (ltb c 0x10000) ((0xE0 + c / 4096) ∷ (0x80 + c / 64 % 64) ∷ (0x80 + c % 64) ∷ [])
+    ((0xF0 + c / 262144) ∷ (0x80 + c / 4096 % 64) ∷ (0x80 + c / 64 % 64) ∷ (0x80 + c % 64) ∷ [])))
+
+-- a quoted text in UTF-8
+unfoldable pub utf8 : String → List ℕ
+utf8 nothing = []
+utf8 (c then s) = encoded (code c) ++ utf8 s
 
 -- bits as `0` and `1`; anything else parts the fields
 unfoldable pub bitsIn : String → List Bool

@@ -7,6 +7,7 @@ use Rattle.cases.specs.Guides.{guides}
 use Rattle.cases.specs.Listings.{listings}
 use Rattle.cases.specs.Plates.{plates}
 use Rattle.cases.specs.Runs.{runs}
+use Rattle.cases.specs.Letters.{letters}
 
 unfoldable pub table : List Row
-table = paper ++ machine ++ guides ++ listings ++ plates ++ runs
+table = paper ++ machine ++ guides ++ listings ++ plates ++ runs ++ letters

@@ -7,7 +7,8 @@ use mathlib.Core.Bool.{true}
 use lib.ListN.{length, take, drop, getD, length-drop}
 use lib.Seq.{take-add, drop-at, drop-drop, length-take-le}
 use Rattle.text.specs.Parts.{split, join, all, comma}
-use Rattle.text.specs.Text.{Text, textByte, textSize, isText}
+use Rattle.text.specs.Text.{Text, isText, isPlain, isOwnText}
+use Rattle.text.proofs.Bytes.{text-size}
 use Rattle.text.proofs.Tests.{in-range, and-parts}
 use Rattle.text.proofs.Splits.{join-split}
 use Rattle.phrases.specs.Lookup.{phraseText}
@@ -39,9 +40,8 @@ Tells (head.Goto k) fs s = Unit
 Tells (head.IfSkip t k) fs s = Unit
 Tells (head.Faulty c) fs s = Unit
 
-text-short : (t : Text) → isText t ≡ true → length t ≤ 64
-unfolding isText
-text-short t h = in-range 1 (length t) 64 (and-parts (textSize t) (all textByte t) h .0) .1
+text-short : (t : Text) → isOwnText t ≡ true → length t ≤ 64
+text-short t h = text-size t (and-parts (isText t) (isPlain t) h .0) .1
 
 read-tells : {form : Form} {fs : List (List ℕ)} {l : Line} → ReadAs form fs l → Tells (headOf l) fs (join comma fs)
 unfolding join

@@ -47,9 +47,9 @@ module _ (plate : List ℕ) (f : ConstantRead) {m : Read ℤ} (e : constantRead 
   pub constant-stopped : {r s : Refusal} → f ≡ constants.Refused r → s ≡ constantRefusal f → stopped (s .cause) (s .place) ≡ m
   constant-stopped h k = refused (constantRead plate) constantRefusal e h k refl
 
-module _ (plate : List ℕ) (bit : ℕ) (f : Field) {m : Read Text} (e : sizeRead plate bit f ≡ m) where
-  pub size-got : {size next : ℕ} → f ≡ fields.Is size next → got (charactersIn size (drop bit (bytesBits plate))) (placeAt plate next) ≡ m
-  size-got h = answered (sizeRead plate bit) refusalOf e h
+module _ (w : ℕ) (plate : List ℕ) (bit : ℕ) (f : Field) {m : Read Text} (e : sizeRead w plate bit f ≡ m) where
+  pub size-got : {size next : ℕ} → f ≡ fields.Is size next → got (charactersIn w size (drop bit (bytesBits plate))) (placeAt plate next) ≡ m
+  size-got h = answered (sizeRead w plate bit) refusalOf e h
 
 module _ (plate : List ℕ) (f : TestRead) {m : Read Test} (e : testRead plate f ≡ m) where
   pub test-got : {t : Test} {next : ℕ} → f ≡ tests.Is t next → got t (placeAt plate next) ≡ m
@@ -64,6 +64,6 @@ module _ (test : ℕ → Bool) (cause : Cause) (plate : List ℕ) (at : ℕ) (f 
   field-kept r e = ap (fieldRead plate) h ∙ judged-stopped r test cause plate at (answered (fieldRead plate) refusalOf e h)
 
 module _ (test : Text → Bool) (cause : Cause) (plate : List ℕ) (at : ℕ) (f : Field) {s : Refusal} (h : f ≡ fields.Refused s) where
-  pub size-kept : (r : Reader Text) → sizeRead plate at f ≡ r (placeAt plate at)
-      → sizeRead plate at f ≡ judged r test cause (placeAt plate at)
-  size-kept r e = ap (sizeRead plate at) h ∙ judged-stopped r test cause plate at (answered (sizeRead plate at) refusalOf e h)
+  pub size-kept : (w : ℕ) (r : Reader Text) → sizeRead w plate at f ≡ r (placeAt plate at)
+      → sizeRead w plate at f ≡ judged r test cause (placeAt plate at)
+  size-kept w r e = ap (sizeRead w plate at) h ∙ judged-stopped r test cause plate at (answered (sizeRead w plate at) refusalOf e h)

@@ -11,10 +11,10 @@ use Rattle.output.proofs.Pour.{pour-fits}
 use Rattle.output.proofs.Poured.{stored}
 use Rattle.fields.specs.Places.{charactersIn}
 
-pub length-characters : (n : ℕ) (bs : List Bool) → length (charactersIn n bs) ≡ n
+pub length-characters : (w n : ℕ) (bs : List Bool) → length (charactersIn w n bs) ≡ n
 unfolding charactersIn
-length-characters zero bs = refl
-length-characters (suc n) bs = ap suc (length-characters n (drop 7 bs))
+length-characters w zero bs = refl
+length-characters w (suc n) bs = ap suc (length-characters w n (drop w bs))
 
 -- a text at the front of a buffer
 pub copied-text : (n : ℕ) (t old : List ℕ) (x : ℕ) (last : List ℕ) → n ≡ length t → n ≤ length old → (x, last) ≡ poured 0 t old

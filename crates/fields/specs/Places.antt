@@ -54,19 +54,19 @@ abbrev pub testRefusal : testField.TestRead → Refusal
 testRefusal (tests.Is t next) = record { cause = PlateEnds; place = next }
 testRefusal (tests.Refused r) = r
 
--- n characters of 7 bits from the front of the bits
-unfoldable pub charactersIn : ℕ → List Bool → Text
-charactersIn zero bs = []
-charactersIn (suc n) bs = valueOf (take 7 bs) ∷ charactersIn n (drop 7 bs)
+-- n characters of w bits from the front of the bits
+unfoldable pub charactersIn : ℕ → ℕ → List Bool → Text
+charactersIn w zero bs = []
+charactersIn w (suc n) bs = valueOf (take w bs) ∷ charactersIn w n (drop w bs)
 
--- "characters, ETX": all that stand at a place
-abbrev pub untilETX : Reader Text
-untilETX p = characters (length (p .left)) p
+-- "characters, ETX": all that stand at a place, of w bits each
+abbrev pub untilETX : ℕ → Reader Text
+untilETX w p = characters w (length (p .left)) p
 
--- a text that the code read from a bit on, by its size
-abbrev pub sizeRead : List ℕ → ℕ → field.Field → Read Text
-sizeRead plate bit (fields.Is size next) = got (charactersIn size (drop bit (bytesBits plate))) (placeAt plate next)
-sizeRead plate bit (fields.Refused r) = stopped (r .cause) (r .place)
+-- a text that the code read from a bit on, by its size in characters of w bits
+abbrev pub sizeRead : ℕ → List ℕ → ℕ → field.Field → Read Text
+sizeRead w plate bit (fields.Is size next) = got (charactersIn w size (drop bit (bytesBits plate))) (placeAt plate next)
+sizeRead w plate bit (fields.Refused r) = stopped (r .cause) (r .place)
 
 -- what was read, by its size
 abbrev pub measured : {A : Type 0} → (A → ℕ) → Read A → Read ℕ

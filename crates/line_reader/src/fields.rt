@@ -6,7 +6,7 @@ ghost use Prim.Native.Nat.{_≤_};
 ghost use lib.ListN.{length, getD};
 ghost use lib.Dec.{eqb};
 ghost use Rattle.text.specs.Parts.{comma, partsFrom};
-ghost use Rattle.text.specs.Text.{Text};
+ghost use Rattle.text.specs.Text.{Text, isText, isOwnText};
 ghost use Rattle.lines.specs.Line as line;
 ghost use Rattle.lines.specs.Answers.{headOf};
 ghost use Rattle.line_reader.specs.Answers.{Tests, textHead};
@@ -56,13 +56,32 @@ pub fn count_fields(s: &[u8], a: usize) -> usize
 
 // Whether the fields are one text, as in `phrase,TEXT`, `print,TEXT` and `printex,TEXT`. A text has no comma, so it is the only field.
 pub fn judge_text(s: &[u8], a: usize) -> OneText
-    ensures { λ r. ⌜ ((l : Text → line.Line) (h : Head) → ((t : Text) → headOf (l t) ≡ h) → textHead h r ≡ headOf (line.textLine l (partsFrom comma a (now (s .entry))))) ⌝ }
+    ensures { λ r. ⌜ ((l : Text → line.Line) (h : Head) → ((t : Text) → headOf (l t) ≡ h) → textHead h r ≡ headOf (line.textLine isText l (partsFrom comma a (now (s .entry))))) ⌝ }
 {
     if s.len() < a {
         return OneText::OtherCount;
     }
     if text_bytes::is_text(&s[a..]) {
         return OneText::Right;
+    }
+    if text::find(s, a, b',') < s.len() {
+        return OneText::OtherCount;
+    }
+    OneText::Wrong
+}
+
+// The same of an own phrase, which keeps to ASCII.
+pub fn judge_own(s: &[u8], a: usize) -> OneText
+    ensures { λ r. ⌜ ((l : Text → line.Line) (h : Head) → ((t : Text) → headOf (l t) ≡ h) → textHead h r ≡ headOf (line.textLine isOwnText l (partsFrom comma a (now (s .entry))))) ⌝ }
+{
+    if s.len() < a {
+        return OneText::OtherCount;
+    }
+    if text_bytes::is_text(&s[a..]) {
+        if utf8::is_ascii(&s[a..]) {
+            return OneText::Right;
+        }
+        return OneText::Wrong;
     }
     if text::find(s, a, b',') < s.len() {
         return OneText::OtherCount;
@@ -86,16 +105,16 @@ pub fn text_head(found: OneText, head: Head) -> Head
 
 // `phrase,TEXT` of a listing; in a guide such a line is 6.
 pub fn read_phrase(form: Form, s: &[u8], a: usize) -> Head
-    ensures { λ r. ⌜ r ≡ headOf (line.textLine (line.phraseLine form) (partsFrom comma a (now (s .entry)))) ⌝ }
+    ensures { λ r. ⌜ r ≡ headOf (line.textLine isOwnText (line.phraseLine form) (partsFrom comma a (now (s .entry)))) ⌝ }
 {
     match form {
         Form::Guide => text_head(
-            judge_text(s, a),
+            judge_own(s, a),
             Head::Faulty {
                 cause: Cause::Phrase,
             },
         ),
-        Form::Listing => text_head(judge_text(s, a), Head::Phrase),
+        Form::Listing => text_head(judge_own(s, a), Head::Phrase),
     }
 }
 

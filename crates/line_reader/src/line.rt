@@ -1,8 +1,8 @@
 // One line by itself.
 ghost use mathlib.Core.Path.{_≡_};
 ghost use mathlib.Core.Bool.{cond};
-ghost use Rattle.text.specs.Parts.{comma, partsFrom, all};
-ghost use Rattle.text.specs.Text.{allowed};
+ghost use Rattle.text.specs.Parts.{comma, partsFrom};
+ghost use Rattle.text.specs.Text.{allowedLine};
 ghost use Rattle.lines.specs.Line as line;
 ghost use Rattle.lines.specs.Words.{lineOfKind};
 ghost use Rattle.lines.specs.Answers.{headOf};
@@ -32,12 +32,14 @@ pub fn read_line(form: Form, s: &[u8]) -> Head
     }
 }
 
-// A line whose fields have this cause: a byte that is not allowed comes before it.
+// A line whose fields have this cause: a byte that is not allowed, or an ill-formed letter, comes before it.
 fn faulty_line(s: &[u8], cause: Cause) -> Head
-    ensures { λ r. ⌜ r ≡ cond (all allowed (now (s .entry))) (Head.Faulty cause) (Head.Faulty Cause.Byte) ⌝ }
+    ensures { λ r. ⌜ r ≡ cond (allowedLine (now (s .entry))) (Head.Faulty cause) (Head.Faulty Cause.Byte) ⌝ }
 {
     if text_bytes::are_allowed(s) {
-        return Head::Faulty { cause };
+        if utf8::well_formed(s) {
+            return Head::Faulty { cause };
+        }
     }
     Head::Faulty { cause: Cause::Byte }
 }

@@ -11,7 +11,7 @@ use Rattle.causes.specs.Answers.{made, refused}
 use Rattle.causes.specs.declared.Cause.the-variants.{TooLong}
 use Rattle.causes.proofs.Results.{never, made-from}
 use Rattle.text.specs.Parts.{split, all, LF}
-use Rattle.text.specs.Text.{Text}
+use Rattle.text.specs.Text.{Text, isPlain}
 use Rattle.text.proofs.Splits.{other, Some, split-some, split-part}
 use Rattle.phrases.proofs.Valid.{PhrasesOk}
 use Rattle.lines.specs.declared.Form.{Form}
@@ -40,6 +40,7 @@ pub record Accepts (form : Form) (book : List Text) (text : List ℕ) (a : Accep
   pub passes : Passes book 1 nothingSeen seen (a .lines)
   pub own : a .own ≡ seen .own
   pub phrases : PhrasesOk book [] (a .own)
+  pub plain : all isPlain (a .own) ≡ true
   pub few : length (a .own) ≤ 32
   pub room : seen .instructions ≤ 512
 
@@ -50,14 +51,14 @@ module _ (form : Form) (book : List Text) (text : List ℕ) where
   accept-read s h p = rw (le-leb (length text) (mostBytes form) h, passes-check book 1 nothingSeen s (linesOf form text) p)
 
   pub accepts : (a : Accepted) → accept form book text ≡ made a → Accepts form book text a
-  unfolding accept checkLines
+  unfolding accept checkLines all
   accepts a e = sized (leb (length text) (mostBytes form)) refl e
     where
       passed : (s : Seen) → length text ≤ mostBytes form → Passes book 1 nothingSeen s (linesOf form text)
           → Accepts form book text (record { own = s .own; lines = linesOf form text })
       passed s h p =
           let valid = lines-ok form (split LF text) in
-          let start : Kept book nothingSeen = record { phrases = tt; few = omega arith; room = omega arith } in
+          let start : Kept book nothingSeen = record { phrases = tt; plain = refl; few = omega arith; room = omega arith } in
           let k = lines-kept form book 1 nothingSeen s (linesOf form text) valid p start in
           record {
             size = h;
@@ -67,6 +68,7 @@ module _ (form : Form) (book : List Text) (text : List ℕ) where
             passes = p;
             own = refl;
             phrases = k .phrases;
+            plain = k .plain;
             few = k .few;
             room = k .room;
           }

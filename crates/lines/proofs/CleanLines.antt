@@ -10,7 +10,7 @@ use lib.Dec.{eqb}
 use Rattle.causes.specs.declared.Cause.{Cause}
 use Rattle.causes.specs.declared.Cause.the-variants.{Byte, Value, Phrase}
 use Rattle.text.specs.Parts.{comma, split, all}
-use Rattle.text.specs.Text.{Text, allowed, isText}
+use Rattle.text.specs.Text.{Text, allowedLine, isText, isOwnText}
 use Rattle.decimals.specs.Number.{register, skip}
 use Rattle.transcript.specs.Statement.{input, inputs}
 use Rattle.transcript.specs.declared.Test.{Test}
@@ -50,22 +50,23 @@ module _ {A : Type 0} where
   given-clean none f d h c = refl
   given-clean (some a) f d h c = h a c
 
-pub text-clean : (line : Text → Line) {d : Head} → ((t : Text) → headOf (line t) ≡ d) → (fs : List (List ℕ)) → Is (textLine line fs)
-    → d ≡ headOf (textLine line fs)
-text-clean line h [] c = absurd (false≢true c)
-text-clean line h (t ∷ []) c = sym (h t) ∙ ap headOf (sym (valued-clean (isText t) (line t) c))
-text-clean line h (t ∷ u ∷ fs) c = absurd (false≢true c)
+pub text-clean : (rule : Text → Bool) (line : Text → Line) {d : Head} → ((t : Text) → headOf (line t) ≡ d) → (fs : List (List ℕ)) → Is (textLine rule line fs)
+    → d ≡ headOf (textLine rule line fs)
+text-clean rule line h [] c = absurd (false≢true c)
+text-clean rule line h (t ∷ []) c = sym (h t) ∙ ap headOf (sym (valued-clean (rule t) (line t) c))
+text-clean rule line h (t ∷ u ∷ fs) c = absurd (false≢true c)
 
 -- a phrase line is no fault in a listing alone
-pub phrase-clean : (form : Form) (fs : List (List ℕ)) → Is (textLine (phraseLine form) fs) → head.Phrase ≡ headOf (textLine (phraseLine form) fs)
+pub phrase-clean : (form : Form) (fs : List (List ℕ)) → Is (textLine isOwnText (phraseLine form) fs)
+    → head.Phrase ≡ headOf (textLine isOwnText (phraseLine form) fs)
 phrase-clean Guide [] c = absurd (false≢true c)
-phrase-clean Guide (t ∷ []) c = go (isText t) c
+phrase-clean Guide (t ∷ []) c = go (isOwnText t) c
   where
     go : (b : Bool) → Is (valued b (faulty Phrase)) → head.Phrase ≡ headOf (valued b (faulty Phrase))
     go true d = absurd (false≢true d)
     go false d = absurd (false≢true d)
 phrase-clean Guide (t ∷ u ∷ fs) c = absurd (false≢true c)
-phrase-clean Listing fs c = text-clean phrase (λ t. refl) fs c
+phrase-clean Listing fs c = text-clean isOwnText phrase (λ t. refl) fs c
 
 pub input-clean : (fs : List (List ℕ)) → Is (inputLine fs) → headGiven (register (getD fs 0 [])) head.Input ≡ headOf (inputLine fs)
 input-clean [] c = absurd (false≢true c)
@@ -129,9 +130,9 @@ goto-clean Listing (k ∷ []) c = given-clean (skip k) gotoLine head.Goto (λ j 
 goto-clean Listing (k ∷ u ∷ fs) c = absurd (false≢true c)
 
 -- its bytes are allowed
-pub bytes-clean : (form : Form) (s : List ℕ) → Is (lineOf form s) → all allowed s ≡ true
+pub bytes-clean : (form : Form) (s : List ℕ) → Is (lineOf form s) → allowedLine s ≡ true
 unfolding lineOf
-bytes-clean form s c = go (all allowed s) c
+bytes-clean form s c = go (allowedLine s) c
   where
     go : (b : Bool) → Is (cond b (fieldsLine form (split comma s)) (faulty Byte)) → b ≡ true
     go b d = test-clean b _ _ d .0

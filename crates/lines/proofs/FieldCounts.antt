@@ -75,13 +75,13 @@ listing-if-counted (r ∷ o ∷ c ∷ k ∷ u ∷ fs) = rw (past (length (r ∷ 
 
 -- a question's line is that of its text, once its register is known
 pub input-register : (r : List ℕ) (n : ℕ) (fs : List (List ℕ)) → register r ≡ some n
-    → inputLine (r ∷ fs) ≡ textLine (λ t. says (input n t)) fs
+    → inputLine (r ∷ fs) ≡ textLine isText (λ t. says (input n t)) fs
 input-register r n [] h = refl
 input-register r n (t ∷ []) h = rw h
 input-register r n (t ∷ u ∷ fs) h = refl
 
 -- with a wrong register the count of fields is still judged first
-pub input-wrong : (r : List ℕ) (fs : List (List ℕ)) → register r ≡ none → inputLine (r ∷ fs) ≡ textLine (λ t. faulty Value) fs
+pub input-wrong : (r : List ℕ) (fs : List (List ℕ)) → register r ≡ none → inputLine (r ∷ fs) ≡ textLine isText (λ t. faulty Value) fs
 input-wrong r [] h = refl
 input-wrong r (t ∷ []) h = rw h (go (isText t))
   where

@@ -2,7 +2,7 @@
 use Prim.Native.Nat.{ℕ, _+_, _-_, _≤_, _<_}
 use mathlib.Core.Path.{_≡_, sym, ap, _∙_}
 use mathlib.Core.List.{List, [], _∷_}
-use mathlib.Core.Bool.{true, false}
+use mathlib.Core.Bool.{Bool, true, false}
 use native.Mathlib.Omega.{arith}
 use lib.ListN.{length, take, drop, getD, length-drop}
 use lib.Seq.{take-all}
@@ -41,9 +41,14 @@ module _ (s : List ℕ) (a : ℕ) where
       let plain = all-so textByte (other comma) text-no-comma t (text-bytes t k) in
       parts-some comma s a h ∙ ap (split comma) (sym e) ∙ split-last comma t plain
 
-  pub text-good : (line : Text → Line) (t : Text) → t ≡ drop a s → a ≤ length s → isText t ≡ true
-      → textLine line (partsFrom comma a s) ≡ line t
-  text-good line t e h k = rw (one-text t e h k, k)
+  pub text-good : (rule : Text → Bool) (line : Text → Line) (t : Text) → t ≡ drop a s → a ≤ length s → isText t ≡ true → rule t ≡ true
+      → textLine rule line (partsFrom comma a s) ≡ line t
+  text-good rule line t e h k r = rw (one-text t e h k, r)
+
+  -- a text that another rule refuses
+  pub text-unfit : (rule : Text → Bool) (line : Text → Line) (t : Text) → t ≡ drop a s → a ≤ length s → isText t ≡ true → rule t ≡ false
+      → textLine rule line (partsFrom comma a s) ≡ faulty Value
+  text-unfit rule line t e h k r = rw (one-text t e h k, r)
 
   -- all fields, in the part from the place on
   pub rest-parts : a ≤ length s → split comma (take (length s - a) (drop a s)) ≡ partsFrom comma a s
@@ -66,15 +71,15 @@ module _ (s : List ℕ) (a : ℕ) where
         go : Some (split comma (drop (e + 1) s)) → Some (partsFrom comma (e + 1) s)
         go (q, qs, f) = (q, qs, parts-some comma s (e + 1) (omega arith) ∙ f)
 
-    pub text-more : (line : Text → Line) → e < length s → textLine line (partsFrom comma a s) ≡ faulty Kind
-    text-more line l = go (one-more l)
+    pub text-more : (rule : Text → Bool) (line : Text → Line) → e < length s → textLine rule line (partsFrom comma a s) ≡ faulty Kind
+    text-more rule line l = go (one-more l)
       where
-        go : Some (partsFrom comma (e + 1) s) → textLine line (partsFrom comma a s) ≡ faulty Kind
+        go : Some (partsFrom comma (e + 1) s) → textLine rule line (partsFrom comma a s) ≡ faulty Kind
         go (q, qs, f) = rw (parts-next comma s a e h k, f)
 
-    pub text-bad : (line : Text → Line) (t : Text) → t ≡ drop a s → e ≤ length s → length s ≤ e → isText t ≡ false
-        → textLine line (partsFrom comma a s) ≡ faulty Value
-    text-bad line t f m l n =
+    pub text-bad : (rule : Text → Bool) (line : Text → Line) (t : Text) → t ≡ drop a s → e ≤ length s → length s ≤ e → rule t ≡ false
+        → textLine rule line (partsFrom comma a s) ≡ faulty Value
+    text-bad rule line t f m l n =
         let end : e ≡ length s = omega arith in
         let field : take (e - a) (drop a s) ≡ t = rw end whole-rest ∙ sym f in
         rw (only-field l, field, n)

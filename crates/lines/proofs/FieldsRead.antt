@@ -1,5 +1,6 @@
 -- One line and its fields: fields that are joined are read as the line of their kind, and the ways in which fields make a line.
 use Prim.Native.Nat.{ℕ}
+use native.Mathlib.Omega.{arith}
 use mathlib.Core.Path.{_≡_, refl}
 use mathlib.Core.List.{List, [], _∷_}
 use mathlib.Core.Bool.{Bool, true, false, cond, _&&_}
@@ -9,7 +10,9 @@ use Rattle.causes.specs.declared.Cause.{Cause}
 use Rattle.causes.specs.declared.Cause.the-variants.{Byte, Kind, Value, Phrase}
 use Rattle.text.specs.Quoted.{bytes}
 use Rattle.text.specs.Parts.{split, join, comma, same, all}
-use Rattle.text.specs.Text.{Text, allowed, textByte, isText}
+use Rattle.text.specs.Text.{Text, allowed, textByte, isText, allowedLine, isOwnText}
+use Rattle.text.specs.Utf8.{lettersBehind, wellFormed}
+use Rattle.text.proofs.Fields.{well-join}
 use Rattle.decimals.specs.Number.{register, constant, skip}
 use Rattle.text.proofs.Tests.{each-so, same-equal}
 use Rattle.text.proofs.Splits.{other, Some, split-some, split-join, join-all}
@@ -25,20 +28,21 @@ use Rattle.lines.specs.Line.{bareLine, gotoFields, kindLine, fieldsLine,
 
 -- ---- from fields to the line
 
-pub fields-read : (form : Form) (fs : List (List ℕ)) → all (all textByte) fs ≡ true → lineOf form (join comma fs) ≡ fieldsLine form fs
-unfolding lineOf kindLine all join split same
-fields-read form [] h = refl
-fields-read form (w ∷ fs) h =
+pub fields-read : (form : Form) (fs : List (List ℕ)) → all (all textByte) fs ≡ true → all wellFormed fs ≡ true
+    → lineOf form (join comma fs) ≡ fieldsLine form fs
+unfolding lineOf kindLine all join split same wellFormed lettersBehind
+fields-read form [] h k = refl
+fields-read form (w ∷ fs) h k =
     let a = join-all comma allowed refl (w ∷ fs) (each-so textByte allowed text-allowed (w ∷ fs) h) in
     let c = each-so textByte (other comma) text-no-comma (w ∷ fs) h in
-    rw (a, split-join comma w fs c)
+    rw (a, well-join comma (omega arith) w fs, k, split-join comma w fs c)
 
 -- ---- from the line to its fields
 
 -- the fields, and what is known of them, from which a line is read
 pub data ReadAs : Form → List (List ℕ) → Line → Type 0 where
   as-fault : {form : Form} {fs : List (List ℕ)} (c : Cause) → ReadAs form fs (faulty c)
-  as-phrase : {t : Text} → TextOk t → ReadAs Listing (bytes "phrase" ∷ t ∷ []) (phrase t)
+  as-phrase : {t : Text} → isOwnText t ≡ true → ReadAs Listing (bytes "phrase" ∷ t ∷ []) (phrase t)
   as-input : {form : Form} {r : List ℕ} {t : Text} {n : ℕ} → register r ≡ some n → TextOk t
       → ReadAs form (bytes "input" ∷ r ∷ t ∷ []) (says (input n t))
   as-inputs : {form : Form} {r : List ℕ} {t : Text} {os : List Text} {n : ℕ} → optionCount os ≡ true → register r ≡ some n
@@ -67,13 +71,13 @@ module _ {form : Form} {fs : List (List ℕ)} where
   test-as true h k = h refl
   test-as false h k = k
 
-text-as : {form : Form} {w : List ℕ} (line : Text → Line) (fs : List (List ℕ))
-    → ((t : Text) → TextOk t → ReadAs form (w ∷ t ∷ []) (line t)) → ReadAs form (w ∷ fs) (textLine line fs)
-text-as line [] h = as-fault Kind
-text-as line (t ∷ []) h = valued-as (isText t) (h t)
-text-as line (t ∷ u ∷ fs) h = as-fault Kind
+text-as : {form : Form} {w : List ℕ} (rule : Text → Bool) (line : Text → Line) (fs : List (List ℕ))
+    → ((t : Text) → rule t ≡ true → ReadAs form (w ∷ t ∷ []) (line t)) → ReadAs form (w ∷ fs) (textLine rule line fs)
+text-as rule line [] h = as-fault Kind
+text-as rule line (t ∷ []) h = valued-as (rule t) (h t)
+text-as rule line (t ∷ u ∷ fs) h = as-fault Kind
 
-phrase-as : (form : Form) (t : Text) → TextOk t → ReadAs form (bytes "phrase" ∷ t ∷ []) (phraseLine form t)
+phrase-as : (form : Form) (t : Text) → isOwnText t ≡ true → ReadAs form (bytes "phrase" ∷ t ∷ []) (phraseLine form t)
 phrase-as Guide t h = as-fault Phrase
 phrase-as Listing t h = as-phrase h
 
@@ -120,11 +124,11 @@ goto-as Listing (k ∷ u ∷ fs) = as-fault Kind
 kind-as : (form : Form) (w : List ℕ) (fs : List (List ℕ)) → ReadAs form (w ∷ fs) (kindLine form w fs)
 unfolding kindLine
 kind-as form w fs =
-    word (bytes "phrase") (text-as (phraseLine form) fs (phrase-as form))
+    word (bytes "phrase") (text-as isOwnText (phraseLine form) fs (phrase-as form))
     (word (bytes "input") (input-as fs)
     (word (bytes "inputs") (inputs-as fs)
-    (word (bytes "print") (text-as (λ t. says (print t)) fs (λ t. as-print))
-    (word (bytes "printex") (text-as (λ t. says (printex t)) fs (λ t. as-printex))
+    (word (bytes "print") (text-as isText (λ t. says (print t)) fs (λ t. as-print))
+    (word (bytes "printex") (text-as isText (λ t. says (printex t)) fs (λ t. as-printex))
     (word (bytes "if") (if-as form fs)
     (word (bytes "else") (bare-as form fs as-else)
     (word (bytes "fi") (bare-as form fs as-fi)
@@ -142,4 +146,4 @@ fields-read-as form s = go (split-some comma s)
 
 pub line-read-as : (form : Form) (s : List ℕ) → ReadAs form (split comma s) (lineOf form s)
 unfolding lineOf
-line-read-as form s = test-as (all allowed s) (λ e. fields-read-as form s) (as-fault Byte)
+line-read-as form s = test-as (allowedLine s) (λ e. fields-read-as form s) (as-fault Byte)

@@ -10,8 +10,9 @@ use lib.Dec.{ltb, eqb}
 use borrow.Author.Tests.{ltb-true, eqb-true}
 use Rattle.causes.specs.declared.Cause.{Cause}
 use Rattle.causes.specs.declared.Cause.the-variants.{Nesting}
-use Rattle.text.specs.Text.{Text}
-use Rattle.text.proofs.Tests.{and-parts}
+use Rattle.text.specs.Parts.{all}
+use Rattle.text.specs.Text.{Text, isPlain}
+use Rattle.text.proofs.Tests.{and-parts, all-append}
 use Rattle.phrases.specs.Phrases.{isNew}
 use Rattle.phrases.proofs.Valid.{PhrasesOk}
 use Rattle.phrases.proofs.BookValid.{phrases-more}
@@ -56,26 +57,29 @@ else-room (o ∷ os) room e = else-allowed o os room e .1
 
 pub record Kept (book : List Text) (s : Seen) : Type 0 where
   pub phrases : PhrasesOk book [] (s .own)
+  pub plain : all isPlain (s .own) ≡ true
   pub few : length (s .own) ≤ 32
   pub room : s .instructions ≤ 512
 
 module _ (form : Form) (book : List Text) where
   -- no more phrases, and one instruction more
   one-more : (s : Seen) (ifs : List Open) → roomCause s ≡ none → Kept book s → Kept book (oneMoreInstruction ifs s)
-  one-more s ifs e h = record { phrases = h .phrases; few = h .few; room = room-left s e }
+  one-more s ifs e h = record { phrases = h .phrases; plain = h .plain; few = h .few; room = room-left s e }
 
   line-kept : (n : ℕ) (l : Line) (s : Seen) → ValidLine form l → causeOf book s l ≡ none → Kept book s → Kept book (next n l s)
+  unfolding all
   line-kept n (phrase t) s v e h =
       let a = phrase-allowed book s t e in
       record {
-        phrases = phrases-more book [] (s .own) t (h .phrases) (phrase-ok form t v) (a .2);
+        phrases = phrases-more book [] (s .own) t (h .phrases) (phrase-ok form t v .0) (a .2);
+        plain = all-append isPlain (s .own) (t ∷ []) (h .plain) (rw (phrase-ok form t v .1));
         few = omega (arith, length-append (s .own) (t ∷ []));
         room = h .room;
       }
   line-kept n (says x) s v e h = one-more s (s .ifs) e h
   line-kept n (ifLine t) s v e h = one-more s _ (test-passed (ltb (length (s .ifs)) 16) (roomCause s) Nesting e .1) h
   line-kept n elseLine s v e h = one-more s (turn (s .ifs)) (else-room (s .ifs) (roomCause s) e) h
-  line-kept n fiLine s v e h = record { phrases = h .phrases; few = h .few; room = h .room }
+  line-kept n fiLine s v e h = record { phrases = h .phrases; plain = h .plain; few = h .few; room = h .room }
   line-kept n (gotoLine k) s v e h = one-more s (s .ifs) e h
   line-kept n (ifSkipLine t k) s v e h = one-more s (s .ifs) e h
   line-kept n (faulty c) s v e h = h

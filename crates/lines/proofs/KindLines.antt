@@ -10,7 +10,7 @@ use lib.Dec.{eqb}
 use borrow.Author.Tests.{eqb-true, eqb-false}
 use Rattle.text.specs.Quoted.{bytes}
 use Rattle.text.specs.Parts.{split, comma, partsFrom, untilByte, same, all}
-use Rattle.text.specs.Text.{allowed}
+use Rattle.text.specs.Text.{allowedLine}
 use Rattle.text.proofs.Tests.{same-equal}
 use Rattle.text.proofs.Places.{parts-whole, parts-next, same-short}
 use Rattle.transcript.specs.declared.Op.the-variants.{Eq, Ne, Lt, Le, Gt, Ge}
@@ -58,7 +58,7 @@ fields-of-kind form s p k e u f d =
     rw (fields, d, f) (kind-line form (take e s) (partsFrom comma (e + 1) s))
 
 -- and whose bytes are allowed
-pub line-of-kind : (form : Form) (s p : List ℕ) (k : Kind) (e : ℕ) → all allowed s ≡ true → e ≡ 0 + untilByte comma (drop 0 s) → p ≡ take e s
+pub line-of-kind : (form : Form) (s p : List ℕ) (k : Kind) (e : ℕ) → allowedLine s ≡ true → e ≡ 0 + untilByte comma (drop 0 s) → p ≡ take e s
     → k ≡ kindOf p → lineOf form s ≡ lineOfKind form k (partsFrom comma (e + 1) s)
 unfolding lineOf
 line-of-kind form s p k e h u f d = rw h (fields-of-kind form s p k e u f d)

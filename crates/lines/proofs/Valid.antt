@@ -5,7 +5,8 @@ use mathlib.Core.Path.{_≡_, refl}
 use mathlib.Core.List.{List, [], _∷_}
 use lib.ListN.{length}
 use Rattle.text.specs.Parts.{all}
-use Rattle.text.specs.Text.{Text, isText}
+use mathlib.Core.Bool.{true}
+use Rattle.text.specs.Text.{Text, isText, isPlain}
 use Rattle.text.proofs.Tests.{and-parts, in-range}
 use Rattle.decimals.proofs.Decimals.{natural-written}
 use Rattle.decimals.proofs.Constants.{constant-written}
@@ -24,7 +25,7 @@ use Rattle.lines.proofs.FieldsRead.{as-if, as-else, as-fi, as-goto, as-
 -- a guide has no `phrase`, no `goto` and no if with a skip; a listing has no if without one, no `else` and no `fi`
 abbrev pub LineOk : Form → Line → Type 0
 LineOk Guide (phrase t) = ⊥
-LineOk Listing (phrase t) = TextOk t
+LineOk Listing (phrase t) = TextOk t × (isPlain t ≡ true)
 LineOk form (says x) = StatementOk x
 LineOk Guide (ifLine t) = TestOk t
 LineOk Listing (ifLine t) = ⊥
@@ -41,13 +42,13 @@ LineOk form (faulty c) = Unit
 pub record ValidLine (form : Form) (l : Line) : Type 0 where
   pub ok : LineOk form l
 
-pub phrase-ok : (form : Form) (t : Text) → ValidLine form (phrase t) → TextOk t
+pub phrase-ok : (form : Form) (t : Text) → ValidLine form (phrase t) → TextOk t × (isPlain t ≡ true)
 phrase-ok Guide t v = absurd (v .ok)
 phrase-ok Listing t v = v .ok
 
 read-ok : {form : Form} {fs : List (List ℕ)} {l : Line} → ReadAs form fs l → LineOk form l
 read-ok (as-fault c) = tt
-read-ok (as-phrase h) = h
+read-ok (as-phrase {t = t} h) = and-parts (isText t) (isPlain t) h
 read-ok (as-input r h) = (omega (arith, natural-written 31 _ _ r .1), h)
 read-ok (as-inputs {t = t} {os = os} n r h) =
     let k = in-range 2 (length os) 8 n in

@@ -9,7 +9,7 @@ use Rattle.causes.specs.declared.Cause.{Cause}
 use Rattle.causes.specs.declared.Cause.the-variants.{Byte, Kind, Value, Phrase}
 use Rattle.text.specs.Quoted.{bytes}
 use Rattle.text.specs.Parts.{split, comma, same, all}
-use Rattle.text.specs.Text.{Text, allowed, isText}
+use Rattle.text.specs.Text.{Text, allowedLine, isText, isOwnText}
 use Rattle.decimals.specs.Number.{register, constant, skip}
 use Rattle.transcript.specs.Statement.{Statement, input, inputs, print, printex}
 use Rattle.transcript.specs.declared.Test.{Test}
@@ -57,10 +57,10 @@ operator w =
 -- ---- the fields behind each kind; "wrong count of fields": 4
 
 -- `phrase,TEXT`, `print,TEXT`, `printex,TEXT`
-abbrev pub textLine : (Text → Line) → List (List ℕ) → Line
-textLine line [] = faulty Kind
-textLine line (t ∷ []) = valued (isText t) (line t)
-textLine line (t ∷ u ∷ fs) = faulty Kind
+abbrev pub textLine : (Text → Bool) → (Text → Line) → List (List ℕ) → Line
+textLine rule line [] = faulty Kind
+textLine rule line (t ∷ []) = valued (rule t) (line t)
+textLine rule line (t ∷ u ∷ fs) = faulty Kind
 
 -- document 02, h): "A guide with a `phrase` line is now turned down with 6 at that line. Listings keep the kind"
 abbrev pub phraseLine : Form → Text → Line
@@ -122,11 +122,11 @@ gotoFields Listing (k ∷ u ∷ fs) = faulty Kind
 -- the line of a kind's word and the fields behind it; "unknown kind": 4
 unfoldable pub kindLine : Form → List ℕ → List (List ℕ) → Line
 kindLine form w fs =
-    cond (same w (bytes "phrase")) (textLine (phraseLine form) fs)
+    cond (same w (bytes "phrase")) (textLine isOwnText (phraseLine form) fs)
     (cond (same w (bytes "input")) (inputLine fs)
     (cond (same w (bytes "inputs")) (inputsLine fs)
-    (cond (same w (bytes "print")) (textLine (λ t. says (print t)) fs)
-    (cond (same w (bytes "printex")) (textLine (λ t. says (printex t)) fs)
+    (cond (same w (bytes "print")) (textLine isText (λ t. says (print t)) fs)
+    (cond (same w (bytes "printex")) (textLine isText (λ t. says (printex t)) fs)
     (cond (same w (bytes "if")) (ifFields form fs)
     (cond (same w (bytes "else")) (bareLine form elseLine fs)
     (cond (same w (bytes "fi")) (bareLine form fiLine fs)
@@ -137,9 +137,9 @@ abbrev pub fieldsLine : Form → List (List ℕ) → Line
 fieldsLine form [] = faulty Kind
 fieldsLine form (w ∷ fs) = kindLine form w fs
 
--- "Fields stand in a fixed order parted by commas"; "byte not allowed": 3, before any look at the fields
+-- "Fields stand in a fixed order parted by commas"; "byte not allowed", or ill-formed: 3, before any look at the fields
 unfoldable pub lineOf : Form → List ℕ → Line
-lineOf form s = cond (all allowed s) (fieldsLine form (split comma s)) (faulty Byte)
+lineOf form s = cond (allowedLine s) (fieldsLine form (split comma s)) (faulty Byte)
 
 -- what stands behind the last LF: nothing, or a "last line without LF": 3
 abbrev pub unended : List ℕ → List Line

@@ -20,6 +20,7 @@ use Rattle.lines.specs.declared.Kind.the-variants.{
   Goto,
   Unknown,
 }
+use Rattle.text.specs.Text.{isText, isOwnText}
 use Rattle.lines.specs.Line.{Line, says, elseLine, fiLine, faulty}
 use Rattle.lines.specs.Line.{textLine, phraseLine, inputLine, inputsLine, ifFields, bareLine, gotoFields}
 
@@ -51,11 +52,11 @@ fieldsAt Unknown = 1
 
 -- the line of a kind and the fields behind its word
 abbrev pub lineOfKind : Form → Kind → List (List ℕ) → Line
-lineOfKind form Phrase fs = textLine (phraseLine form) fs
+lineOfKind form Phrase fs = textLine isOwnText (phraseLine form) fs
 lineOfKind form Input fs = inputLine fs
 lineOfKind form Inputs fs = inputsLine fs
-lineOfKind form Print fs = textLine (λ t. says (print t)) fs
-lineOfKind form Printex fs = textLine (λ t. says (printex t)) fs
+lineOfKind form Print fs = textLine isText (λ t. says (print t)) fs
+lineOfKind form Printex fs = textLine isText (λ t. says (printex t)) fs
 lineOfKind form If fs = ifFields form fs
 lineOfKind form Else fs = bareLine form elseLine fs
 lineOfKind form Fi fs = bareLine form fiLine fs

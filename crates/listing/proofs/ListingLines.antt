@@ -4,7 +4,10 @@ use mathlib.Core.Path.{_≡_, refl, ap}
 use mathlib.Core.List.{List, [], _∷_, _++_, map, map-append, map-map}
 use native.Mathlib.Omega.{arith}
 use lib.ListN.{length}
-use Rattle.text.specs.Text.{Text}
+use mathlib.Core.Bool.{true}
+use Rattle.text.specs.Parts.{all}
+use Rattle.text.specs.Text.{Text, isPlain}
+use Rattle.text.proofs.Tests.{all-first, all-rest}
 use Rattle.phrases.proofs.Valid.{PhrasesOk}
 use Rattle.lines.specs.declared.Form.the-variants.{Listing}
 use Rattle.lines.specs.Line.{Line, phrase, says, ifLine, elseLine, fiLine, gotoLine, ifSkipLine, faulty}
@@ -60,8 +63,9 @@ instruction-ok behind (ifSkip t j) h k = (k .0, omega arith)
 
 -- the lines of a program that meets the rules meet theirs
 pub program-ok : (book earlier ts : List Text) (is : List Instruction)
-    → PhrasesOk book earlier ts → InstructionsOk is → length is ≤ 512 → LinesOk Listing (programLines ts is)
-program-ok book earlier (t ∷ ts) is h k r = (record { ok = h .0 }, program-ok book (earlier ++ (t ∷ [])) ts is (h .2) k r)
-program-ok book earlier [] [] h k r = tt
-program-ok book earlier [] (i ∷ is) h k r =
-    (record { ok = instruction-ok (length is) i (omega arith) (k .0) }, program-ok book earlier [] is h (k .1) (omega arith))
+    → PhrasesOk book earlier ts → all isPlain ts ≡ true → InstructionsOk is → length is ≤ 512 → LinesOk Listing (programLines ts is)
+program-ok book earlier (t ∷ ts) is h m k r =
+    (record { ok = (h .0, all-first isPlain t ts m) }, program-ok book (earlier ++ (t ∷ [])) ts is (h .2) (all-rest isPlain t ts m) k r)
+program-ok book earlier [] [] h m k r = tt
+program-ok book earlier [] (i ∷ is) h m k r =
+    (record { ok = instruction-ok (length is) i (omega arith) (k .0) }, program-ok book earlier [] is h m (k .1) (omega arith))

@@ -32,7 +32,7 @@ unfolding listingProgram listingText
 listing-read book p h k =
     let end = seen (p .own) (length (p .instructions)) in
     let c = program-passes book 1 [] (p .own) (p .instructions) (h .phrases) (omega (arith, h .few)) (h .room) in
-    let ok = program-ok book [] (p .own) (p .instructions) (h .phrases) (h .instructions) (h .room) in
+    let ok = program-ok book [] (p .own) (p .instructions) (h .phrases) (h .plain) (h .instructions) (h .room) in
     let ls : linesOf Listing (listingText p) ≡ programLines (p .own) (p .instructions) =
     rw (← program-fields p) (lines-read book 1 nothingSeen end (programLines (p .own) (p .instructions)) ok c) in
     let a = accept-read Listing book (listingText p) end k (rw ls c) in
@@ -67,6 +67,7 @@ accepted-ok book s a n c f =
     let l = accepted-lines book s a c in
     record {
       phrases = c .phrases;
+      plain = c .plain;
       few = c .few;
       room = l .1;
       instructions = instructions-ok (a .own) n (instructionsOf (a .lines)) (subst (LinesOk Listing) (l .0) (c .valid)) f;

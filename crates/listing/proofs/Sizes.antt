@@ -31,7 +31,7 @@ operator-size Ge = refl
 
 -- the longest line is an inputs with 8 options: 6 + 2 + 9 * 64 bytes, and 11 commas
 line-size : (l : Line) → LineOk Listing l → size (lineFields l) ≤ 595
-line-size (phrase t) h = omega (arith, text-size t h)
+line-size (phrase t) h = omega (arith, text-size t (h .0))
 line-size (says (input r t)) h = omega (arith, decimalℕ-short 1 r (omega arith), text-size t (h .1))
 line-size (says (inputs r t os)) h = omega (arith, decimalℕ-short 1 r (omega arith), text-size t (h .1), texts-size os (h .4))
 line-size (says (print t)) h = omega (arith, text-size t h)
@@ -60,6 +60,6 @@ pub listing-short : (book : List Text) (p : Program) → ProgramOk book p → le
 unfolding listingText
 listing-short book p h =
     let ls = programLines (p .own) (p .instructions) in
-    let ok = program-ok book [] (p .own) (p .instructions) (h .phrases) (h .instructions) (h .room) in
+    let ok = program-ok book [] (p .own) (p .instructions) (h .phrases) (h .plain) (h .instructions) (h .room) in
     let n : length ls ≤ 544 = simp (length-append, length-map) (omega (arith, h .few, h .room)) in
     rw (← program-fields p) (omega (arith, lines-size ls ok))

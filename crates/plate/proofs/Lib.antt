@@ -1,5 +1,6 @@
 pub mod Valid
 pub mod Readers
+pub mod Widths
 pub mod Spelled
 pub mod Texts
 pub mod Constants

@@ -2,14 +2,18 @@
 use Prim.Native.Nat.{ℕ, zero, suc, _^_, _≤_, _<_}
 use mathlib.Core.Path.{_≡_, refl, sym, ap}
 use mathlib.Core.List.{List, [], _∷_, _++_, append-nil}
-use mathlib.Core.Bool.{Bool}
+use mathlib.Core.Bool.{Bool, true}
 use native.Mathlib.Omega.{arith}
 use lib.ListN.{length}
 use Rattle.bits.specs.Bits.{bitsOf}
+use Rattle.text.specs.Parts.{all}
 use Rattle.text.specs.Text.{Text}
+use Rattle.text.proofs.Tests.{and-both, all-first, all-rest}
+use Rattle.text.specs.Text.{isPlain}
 use Rattle.phrases.proofs.Valid.{PhrasesOk}
 use Rattle.plate.specs.Writing.{phrasesBits, ownBits}
-use Rattle.plate.specs.Plate.{ownFrom, ownCountBy, ownCount}
+use Rattle.plate.specs.Plate.{ownCountBy, ownCount}
+use Rattle.plate.specs.Plate.{ownFrom}
 use Rattle.plate.proofs.Readers.{
   Takes,
   Gives,
@@ -25,21 +29,22 @@ use Rattle.plate.proofs.Readers.{
 use Rattle.plate.proofs.Spelled.{takes-spelled, gives-spelled}
 
 -- the own phrases behind earlier ones
-pub takes-own : (book earlier ts : List Text) → PhrasesOk book earlier ts
+pub takes-own : (book earlier ts : List Text) → PhrasesOk book earlier ts → all isPlain ts ≡ true
     → Takes (ownFrom book earlier (length ts)) (phrasesBits ts) ts
 unfolding ownFrom phrasesBits
-takes-own book earlier [] h = takes-return []
-takes-own book earlier (t ∷ ts) h =
-    takes-then _ (takes-spelled book earlier t (h .0) (h .1)) (takes-last _ (takes-own book (earlier ++ (t ∷ [])) ts (h .2)))
+takes-own book earlier [] h k = takes-return []
+takes-own book earlier (t ∷ ts) h k =
+    takes-then _ (takes-spelled book earlier t (h .0) (all-first isPlain t ts k) (h .1))
+    (takes-last _ (takes-own book (earlier ++ (t ∷ [])) ts (h .2) (all-rest isPlain t ts k)))
 
 pub gives-own : (book earlier : List Text) (n : ℕ)
-    → Gives (ownFrom book earlier n) [] phrasesBits (λ ts. (length ts ≡ n) × PhrasesOk book earlier ts)
-unfolding ownFrom phrasesBits
-gives-own book earlier zero = gives-return [] (refl, tt) refl
+    → Gives (ownFrom book earlier n) [] phrasesBits (λ ts. (length ts ≡ n) × PhrasesOk book earlier ts × (all isPlain ts ≡ true))
+unfolding ownFrom phrasesBits all
+gives-own book earlier zero = gives-return [] (refl, tt, refl) refl
 gives-own book earlier (suc n) =
     gives-then (gives-spelled book earlier) (λ t ht.
     gives-then (gives-own book (earlier ++ (t ∷ [])) n) (λ ts hs.
-    gives-return (t ∷ ts) (ap suc (hs .0), (ht .0, ht .1, hs .1)) refl))
+    gives-return (t ∷ ts) (ap suc (hs .0), (ht .0, ht .1, hs .1), and-both (ht .2) (hs .2)) refl))
 
 -- the bits of their number
 abbrev pub countBits : ℕ → List Bool

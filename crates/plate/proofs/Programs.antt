@@ -5,10 +5,10 @@ use lib.ListN.{length}
 use borrow.Author.Tests.{leb-true, le-leb}
 use Rattle.text.specs.Text.{Text}
 use Rattle.phrases.proofs.Valid.{BookOk}
+use Rattle.plate.proofs.Valid.{ProgramOk}
 use Rattle.plate.specs.Program.{Program}
 use Rattle.plate.specs.Writing.{programBits}
 use Rattle.plate.specs.Plate.{program}
-use Rattle.plate.proofs.Valid.{ProgramOk}
 use Rattle.plate.proofs.Readers.{
   Takes,
   Gives,
@@ -31,7 +31,7 @@ takes-program book p ok =
     rw own-bits
     (simp append-assoc
     (takes-then _ (takes-count (length (p .own)) (ok .few))
-    (takes-then _ (takes-own book [] (p .own) (ok .phrases))
+    (takes-then _ (takes-own book [] (p .own) (ok .phrases) (ok .plain))
     (takes-then _
     (takes-judged _ _ (takes-number 10 (length (p .instructions)) (omega (arith, ok .room))) (le-leb _ 512 (ok .room)))
     (takes-last _ (takes-instructions _ (p .instructions) (ok .room) (ok .instructions)))))))
@@ -46,6 +46,7 @@ gives-program book good-book =
     gives-return (record { own = own; instructions = is })
     (record {
       phrases = ho .1;
+      plain = ho .2;
       few = omega (arith, ho .0);
       room = omega (arith, hs .0, leb-true n 512 (hn .1));
       instructions = hs .1;

@@ -2,7 +2,7 @@
 use Prim.Native.Nat.{ℕ, zero, suc, _+_, _^_, _≤_, _<_}
 use mathlib.Core.Path.{_≡_, refl, ap}
 use mathlib.Core.List.{List, [], _∷_, _++_, append-nil, append-assoc}
-use mathlib.Core.Bool.{Bool, true, false≢true}
+use mathlib.Core.Bool.{Bool, true, false, cond, false≢true}
 use mathlib.Core.Option.{some}
 use native.Mathlib.Nat.{lt-of-lt-of-le}
 use native.Mathlib.Omega.{arith}
@@ -10,14 +10,14 @@ use lib.ListN.{length, getD}
 use borrow.Author.Tests.{le-leb, lt-ltb, ltb-true}
 use Rattle.bits.specs.Bits.{bitsOf}
 use Rattle.text.specs.Parts.{all}
-use Rattle.text.specs.Text.{Text, isText}
+use Rattle.text.specs.Text.{Text}
 use Rattle.text.proofs.Valid.{TextOk, TextsOk}
-use Rattle.phrases.specs.Phrases.{Phrases, Where, inBook, inOwn, nowhere, find, isNowhere, width}
 use Rattle.phrases.proofs.Valid.{PhrasesOk, BookOk}
+use Rattle.phrases.specs.Phrases.{Phrases, Where, inBook, inOwn, nowhere, find, isNowhere, width}
 use Rattle.text.proofs.Tests.{all-cons, all-first, all-rest}
 use Rattle.phrases.proofs.Width.{width-enough}
 use Rattle.phrases.proofs.Stands.{Stands, Finds, find-stands, new-found, phrase-is-text, found-in-own, found-in-book}
-use Rattle.plate.specs.Writing.{ownBit, textBitsAt, textBits, textsBits}
+use Rattle.plate.specs.Writing.{spelledBits, ownBit, textBitsAt, textBits, textsBits}
 use Rattle.plate.specs.Plate.{phraseAt, phraseBy, phrase, isTextCode, textBy, text}
 use Rattle.plate.proofs.Readers.{
   Takes,
@@ -33,7 +33,8 @@ use Rattle.plate.proofs.Readers.{
   gives-so,
   OneByOne,
 }
-use Rattle.plate.proofs.Spelled.{takes-spelled, gives-spelled}
+use Rattle.text.specs.Text.{isText, isPlain}
+use Rattle.plate.proofs.Spelled.{takes-spelled, gives-spelled, takes-accented, gives-accented}
 
 -- ---- written, then read
 
@@ -68,7 +69,11 @@ module _ (c : Phrases) where
   takes-text t h = go (find c t) refl (find-stands c t)
     where
       go : (w : Where) → find c t ≡ w → Finds c t w → Takes (text c) (textBitsAt c t w) t
-      go nowhere e f = takes-code 0 (omega arith) refl (takes-spelled (c .book) (c .own) t h (ap isNowhere e))
+      go nowhere e f = spelt (isPlain t) refl
+        where
+          spelt : (v : Bool) → isPlain t ≡ v → Takes (text c) (cond v (bitsOf 2 0 ++ spelledBits 7 t) (bitsOf 2 1 ++ spelledBits 8 t)) t
+          spelt true p = takes-code 0 (omega arith) refl (takes-spelled (c .book) (c .own) t h p (ap isNowhere e))
+          spelt false p = takes-code 1 (omega arith) refl (takes-accented (c .book) (c .own) t h p (ap isNowhere e))
       go (inBook i) e f =
           let some-phrase : 1 ≤ length (c .book) + length (c .own) = omega (arith, f .0) in
           rw append-assoc (takes-code 2 (omega arith) (le-leb 1 _ some-phrase) (takes-in-book (c .book) (c .own) t i f))
@@ -115,8 +120,8 @@ module _ (book own : List Text) (good-book : BookOk book) (good-own : PhrasesOk 
       c = record { book = book; own = own }
 
       by : (code : ℕ) → (code < 2 ^ 2) × (isTextCode c code ≡ true) → Gives (textBy c code) (bitsOf 2 code) (textBits c) TextOk
-      by zero h = gives-so (gives-spelled book own) (λ t ht. (ht .0, rw (new-found book own t (ht .1))))
-      by (suc zero) h = absurd (false≢true (h .1))
+      by zero h = gives-so (gives-spelled book own) (λ t ht. (ht .0, rw (new-found book own t (ht .1), ht .2)))
+      by (suc zero) h = gives-so (gives-accented book own) (λ t ht. (ht .0, rw (new-found book own t (ht .1), ht .2)))
       by (suc (suc zero)) h =
           gives-phrase _ _ book own
           (λ i hi. (phrase-is-text [] [] book good-book i hi, rw (found-in-book book own good-book i hi)))

@@ -2,7 +2,10 @@
 use Prim.Native.Nat.{ℕ, _≤_}
 use mathlib.Core.List.{List, [], _∷_}
 use lib.ListN.{length}
-use Rattle.text.specs.Text.{Text}
+use mathlib.Core.Path.{_≡_}
+use mathlib.Core.Bool.{true}
+use Rattle.text.specs.Parts.{all}
+use Rattle.text.specs.Text.{Text, isPlain}
 use Rattle.phrases.proofs.Valid.{PhrasesOk}
 use Rattle.transcript.proofs.Valid.{StatementOk, TestOk}
 use Rattle.plate.specs.Program.{Instruction, statement, goto, ifSkip, Program}
@@ -19,6 +22,7 @@ InstructionsOk (i ∷ is) = InstructionOk (length is) i × InstructionsOk is
 
 pub record ProgramOk (book : List Text) (p : Program) : Type 0 where
   pub phrases : PhrasesOk book [] (p .own)
+  pub plain : all isPlain (p .own) ≡ true
   pub few : length (p .own) ≤ 32
   pub room : length (p .instructions) ≤ 512
   pub instructions : InstructionsOk (p .instructions)

@@ -9,7 +9,8 @@ use Rattle.causes.specs.Answers.{Result, made, refused}
 use Rattle.causes.specs.Limits.{mostInstructions, mostPlateBytes}
 use Rattle.causes.specs.declared.Cause.the-variants.{PlateTooLong, PlateEnds, Unused, Spelling, Skip, Filling}
 use Rattle.bits.specs.Bits.{bytesBits}
-use Rattle.text.specs.Text.{Text, textByte, textSize}
+use Rattle.text.specs.Utf8.{wellFormed}
+use Rattle.text.specs.Text.{Text, textByte, textSize, isPlain}
 use Rattle.phrases.specs.Phrases.{Phrases, isNew, width}
 use Rattle.transcript.specs.Statement.{input, inputs, print, printex}
 use Rattle.transcript.specs.declared.Test.{Test}
@@ -21,9 +22,9 @@ use Rattle.plate.specs.Reading.{Read, got, stopped, Reader, number, judg
 
 -- ---- texts
 
--- a character, or ETX; "character outside 32 to 126 or a comma": 14
-abbrev pub character : Reader ℕ
-character = judged (number 7) (λ c. eqb c ETX || textByte c) Spelling
+-- a character of w bits, or ETX; one that no text holds, "no byte below 32, no 127 and no comma": 14
+abbrev pub character : ℕ → Reader ℕ
+character w = judged (number w) (λ c. eqb c ETX || textByte c) Spelling
 
 -- the text ends at ETX, or goes on behind the character c
 abbrev pub upToETX : Bool → ℕ → Reader Text → Reader Text
@@ -33,25 +34,29 @@ upToETX false c rest = do
   return (c ∷ t)
 
 -- characters up to ETX, at most f of them: with fewer bits than characters the plate ends
-unfoldable pub characters : ℕ → Reader Text
-characters zero = λ p. stopped PlateEnds (p .at)
-characters (suc f) = do
-  c ← character
-  upToETX (eqb c ETX) c (characters f)
+unfoldable pub characters : ℕ → ℕ → Reader Text
+characters w zero = λ p. stopped PlateEnds (p .at)
+characters w (suc f) = do
+  c ← character w
+  upToETX (eqb c ETX) c (characters w f)
 
--- a whole text; "text of 0 or over 64, a phrase spelled out or repeated": 14, "judged at its ETX, and its bit is that of its first
--- character position"
-unfoldable pub spelled : List Text → List Text → Reader Text
-spelled book own =
-    judged (λ p. characters (length (p .left)) p) (λ t. textSize t && isNew book own t) Spelling
+-- a whole text in characters of w bits, which has to keep a rule; "text of 0 or over 64, ..": 14, "judged at its ETX, and its bit is
+-- that of its first character position"
+unfoldable pub spelled : ℕ → (Text → Bool) → Reader Text
+spelled w rule = judged (λ p. characters w (length (p .left)) p) (λ t. textSize t && rule t) Spelling
+
+-- the rule of code 01: "a phrase spelled out": 14; document 02, f): "Ill-formed text is .. 14 .., and 01 on an ASCII text is 14; .. on
+-- a plate both are faults of a whole text"
+abbrev pub isAccented : List Text → List Text → Text → Bool
+isAccented book own t = isNew book own t && wellFormed t && not (isPlain t)
 
 -- ---- phrases
 
--- the own phrases, each judged against the book and the earlier ones
+-- the own phrases, each judged against the book and the earlier ones; "Own phrases keep the old characters"
 unfoldable pub ownFrom : List Text → List Text → ℕ → Reader (List Text)
 ownFrom book earlier zero = return []
 ownFrom book earlier (suc n) = do
-  t ← spelled book earlier
+  t ← spelled 7 (isNew book earlier)
   ts ← ownFrom book (earlier ++ (t ∷ [])) n
   return (t ∷ ts)
 
@@ -87,19 +92,20 @@ phrase (t ∷ ts) (u ∷ us) = do
   b ← number 1
   phraseBy (t ∷ ts) (u ∷ us) b
 
--- 00, or 10 where there are phrases; "A 10 where there are no phrases at all is 13 at that 10"
+-- 00, 01, or 10 where there are phrases; "A 10 where there are no phrases at all is 13 at that 10"
 abbrev pub isTextCode : Phrases → ℕ → Bool
 isTextCode c zero = true
-isTextCode c (suc zero) = false
+isTextCode c (suc zero) = true
 isTextCode c (suc (suc zero)) = leb 1 (length (c .book) + length (c .own))
 isTextCode c (suc (suc (suc n))) = false
 
--- what a text's code calls for: 00 characters, 10 a phrase
+-- what a text's code calls for: 00 characters of 7 bits, 01 "eight bits to a byte, ended by 00000011", 10 a phrase
 abbrev pub textBy : Phrases → ℕ → Reader Text
-textBy c zero = spelled (c .book) (c .own)
-textBy c (suc n) = phrase (c .book) (c .own)
+textBy c zero = spelled 7 (isNew (c .book) (c .own))
+textBy c (suc zero) = spelled 8 (isAccented (c .book) (c .own))
+textBy c (suc (suc n)) = phrase (c .book) (c .own)
 
--- "Text: 00, characters, ETX; or 10 and a phrase"
+-- "Text: 00, characters, ETX; or 10 and a phrase", or 01
 unfoldable pub text : Phrases → Reader Text
 text c = do
   code ← judged (number 2) (isTextCode c) Unused

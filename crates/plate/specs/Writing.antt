@@ -10,7 +10,7 @@ use Rattle.causes.specs.Answers.{Result, made, refused}
 use Rattle.causes.specs.Limits.{mostPlateBytes}
 use Rattle.causes.specs.declared.Cause.the-variants.{PlateTooLong}
 use Rattle.bits.specs.Bits.{bitsOf, pack}
-use Rattle.text.specs.Text.{Text}
+use Rattle.text.specs.Text.{Text, isPlain}
 use Rattle.phrases.specs.Phrases.{Phrases, Where, inBook, inOwn, nowhere, find, width}
 use Rattle.transcript.specs.Statement.{Statement, input, inputs, print, printex}
 use Rattle.transcript.specs.declared.Op.{Op}
@@ -21,10 +21,14 @@ use Rattle.plate.specs.Program.{Instruction, statement, goto, ifSkip, Pr
 abbrev pub ETX : ℕ
 ETX = 3
 
--- "7-bit characters ended by ETX"
-unfoldable pub spelledBits : Text → List Bool
-spelledBits [] = bitsOf 7 ETX
-spelledBits (c ∷ t) = bitsOf 7 c ++ spelledBits t
+-- characters of w bits ended by ETX: "7-bit characters", "eight bits to a byte, ended by 00000011"
+unfoldable pub spelledBits : ℕ → Text → List Bool
+spelledBits w [] = bitsOf w ETX
+spelledBits w (c ∷ t) = bitsOf w c ++ spelledBits w t
+
+-- "A spelled text with a byte of 128 or more is written with source document 000's code 01 ..; others keep 00"
+abbrev pub spelledText : Text → List Bool
+spelledText t = cond (isPlain t) (bitsOf 2 0 ++ spelledBits 7 t) (bitsOf 2 1 ++ spelledBits 8 t)
 
 -- "one bit says book (0) or own (1), left out where only one of the two has phrases"
 abbrev pub ownBit : List Text → List Text → ℕ → List Bool
@@ -32,9 +36,9 @@ ownBit [] own b = []
 ownBit (s ∷ ss) [] b = []
 ownBit (s ∷ ss) (t ∷ ts) b = bitsOf 1 b
 
--- "Text: 00, characters, ETX; or 10 and a phrase"; "then its place from 0, in the fewest bits that number all the phrases there"
+-- "Text: 00, characters, ETX; or 10 and a phrase", or 01; "then its place from 0, in the fewest bits that number all the phrases there"
 abbrev pub textBitsAt : Phrases → Text → Where → List Bool
-textBitsAt c t nowhere = bitsOf 2 0 ++ spelledBits t
+textBitsAt c t nowhere = spelledText t
 textBitsAt c t (inBook i) = bitsOf 2 2 ++ ownBit (c .book) (c .own) 0 ++ bitsOf (width (length (c .book))) i
 textBitsAt c t (inOwn i) = bitsOf 2 2 ++ ownBit (c .book) (c .own) 1 ++ bitsOf (width (length (c .own))) i
 
@@ -92,7 +96,7 @@ instructionsBits c (i ∷ is) = instructionBits c i ++ instructionsBits c is
 -- phrases, one behind the other
 unfoldable pub phrasesBits : List Text → List Bool
 phrasesBits [] = []
-phrasesBits (t ∷ ts) = spelledBits t ++ phrasesBits ts
+phrasesBits (t ∷ ts) = spelledBits 7 t ++ phrasesBits ts
 
 -- "One bit: 1 if there are own phrases; then 5 bits for their number less one, and each phrase as 7-bit characters ended by ETX"
 unfoldable pub ownBits : List Text → List Bool

@@ -30,76 +30,77 @@ got-known {m = m} {a = a} {q = q} e = record { good = λ s. never s }
     never s = let z : _≡_ {A = ℕ} 0 1 = cc in omega arith
 
 -- the characters passed are copied
-pub record CopySoFar (plate : List ℕ) (at from : ℕ) (old : List ℕ) (end : ℕ) (out : List ℕ) (bit : ℕ) : Type 0 where
+pub record CopySoFar (w : ℕ) (plate : List ℕ) (at from : ℕ) (old : List ℕ) (end : ℕ) (out : List ℕ) (bit : ℕ) : Type 0 where
   pub front : Text
-  pub text : SoFar plate at front bit
+  pub text : SoFar w plate at front bit
   pub written : (end, out) ≡ poured from front old
 
 -- the bytes of the whole text are copied, and its end is known
-abbrev pub Whole : List ℕ → ℕ → ℕ → List ℕ → ℕ → List ℕ → ℕ → Type 0
-Whole plate at from old end out next =
-    ((end, out) ≡ poured from (valuesOf (untilETX (placeAt plate at))) old)
-    × (got 0 (placeAt plate next) ≡ endWith 0 (untilETX (placeAt plate at)))
+abbrev pub Whole : ℕ → List ℕ → ℕ → ℕ → List ℕ → ℕ → List ℕ → ℕ → Type 0
+Whole w plate at from old end out next =
+    ((end, out) ≡ poured from (valuesOf (untilETX w (placeAt plate at))) old)
+    × (got 0 (placeAt plate next) ≡ endWith 0 (untilETX w (placeAt plate at)))
 
-pub copy-start : (plate : List ℕ) (at from : ℕ) (old : List ℕ) → from ≤ 18446744073709551615 → CopySoFar plate at from old from old at
-copy-start plate at from old h = record { front = []; text = so-far-none plate at; written = none from old h }
+module _ {w : ℕ} (some-bits : 0 < w) where
+  pub copy-start : (plate : List ℕ) (at from : ℕ) (old : List ℕ) → from ≤ 18446744073709551615 → CopySoFar w plate at from old from old at
+  copy-start plate at from old h = record { front = []; text = so-far-none some-bits plate at; written = none from old h }
 
--- one copy behind the other
-pub copy-joined : {plate : List ℕ} {at from end bit x next : ℕ} {old out last : List ℕ} → CopySoFar plate at from old end out bit
-    → CopySoFar plate bit end out x last next → length old < 9223372036854775808 → CopySoFar plate at from old x last next
-copy-joined s t l =
-    record {
-      front = s .front ++ t .front;
-      text = so-far-joined (s .text) (t .text);
-      written = then _ _ _ _ _ _ _ (s .written) (t .written) l;
-    }
+  -- one copy behind the other
+  pub copy-joined : {plate : List ℕ} {at from end bit x next : ℕ} {old out last : List ℕ} → CopySoFar w plate at from old end out bit
+      → CopySoFar w plate bit end out x last next → length old < 9223372036854775808 → CopySoFar w plate at from old x last next
+  copy-joined s t l =
+      record {
+        front = s .front ++ t .front;
+        text = so-far-joined some-bits (s .text) (t .text);
+        written = then _ _ _ _ _ _ _ (s .written) (t .written) l;
+      }
 
--- a number where a text is known to be good is a character
-known-character : (plate : List ℕ) (bit : ℕ) {c : ℕ} {q : Place} → Known (untilETX (placeAt plate bit))
-    → got c q ≡ number 7 (placeAt plate bit) → got c q ≡ character (placeAt plate bit)
-known-character plate bit {c} {q} w e = go (eqb c ETX || textByte c) refl
-  where
-    go : (b : Bool) → (eqb c ETX || textByte c) ≡ b → got c q ≡ character (placeAt plate bit)
-    go true h = judged-got (number 7) _ Spelling plate bit e h
-    go false h = absurd (w .good (so-far-stopped (so-far-none plate bit) (judged-not (number 7) _ Spelling plate bit e h)))
-
-module _ {plate : List ℕ} {at from end bit : ℕ} {old out : List ℕ} (s : CopySoFar plate at from old end out bit)
-    (w : Known (untilETX (placeAt plate at))) where
-  -- the text does not end without ETX
-  pub copy-cut : numberIn 7 (drop bit (bytesBits plate)) ≡ Ends → ⊥
-  copy-cut e = w .good (so-far-stopped (s .text) (judged-stopped (number 7) _ Spelling plate bit (number-cut plate bit 7 e)))
-
-  -- what is left
-  pub copy-known : Known (untilETX (placeAt plate bit))
-  copy-known = so-far-known (s .text) w
-
-  pub copy-rest : {x : ℕ} {last : List ℕ} (next : ℕ) → Whole plate bit end out x last next → length old < 9223372036854775808
-      → Whole plate at from old x last next
-  copy-rest next h l =
-      let e = then _ _ _ _ _ _ _ (s .written) (h .0) l in (
-        e ∙ ap (λ t. poured from t old) (values (untilETX (placeAt plate bit)) refl ∙ ap valuesOf (s .text .whole)),
-        h .1 ∙ ends (untilETX (placeAt plate bit)) ∙ ap (endWith 0) (s .text .whole),
-      )
+  -- a number where a text is known to be good is a character
+  known-character : (plate : List ℕ) (bit : ℕ) {c : ℕ} {q : Place} → Known (untilETX w (placeAt plate bit))
+      → got c q ≡ number w (placeAt plate bit) → got c q ≡ character w (placeAt plate bit)
+  known-character plate bit {c} {q} k e = go (eqb c ETX || textByte c) refl
     where
-      values : (m : Read Text) → m ≡ untilETX (placeAt plate bit) → s .front ++ valuesOf m ≡ valuesOf (behind (s .front) m)
-      values (got t q) e = refl
-      values (stopped cause b) e = absurd (copy-known .good e)
+      go : (b : Bool) → (eqb c ETX || textByte c) ≡ b → got c q ≡ character w (placeAt plate bit)
+      go true h = judged-got (number w) _ Spelling plate bit e h
+      go false h = absurd (k .good (so-far-stopped some-bits (so-far-none some-bits plate bit) (judged-not (number w) _ Spelling plate bit e h)))
 
-      ends : (m : Read Text) → endWith 0 m ≡ endWith 0 (behind (s .front) m)
-      ends (got t q) = refl
-      ends (stopped cause b) = refl
+  module _ {plate : List ℕ} {at from end bit : ℕ} {old out : List ℕ} (s : CopySoFar w plate at from old end out bit)
+      (known : Known (untilETX w (placeAt plate at))) where
+    -- the text does not end without ETX
+    pub copy-cut : numberIn w (drop bit (bytesBits plate)) ≡ Ends → ⊥
+    copy-cut e = known .good (so-far-stopped some-bits (s .text) (judged-stopped (number w) _ Spelling plate bit (number-cut plate bit w e)))
 
-  module _ {c : ℕ} (next : ℕ) (e : got c (placeAt plate next) ≡ number 7 (placeAt plate bit)) where
-    pub copy-ended : c ≡ 3 → Whole plate at from old end out next
-    copy-ended h =
-        let t = so-far-ended (s .text) c next (known-character plate bit copy-known e) h in
-        (s .written ∙ ap (λ m. poured from (valuesOf m) old) t, ap (endWith 0) t)
+    -- what is left
+    pub copy-known : Known (untilETX w (placeAt plate bit))
+    copy-known = so-far-known some-bits (s .text) known
 
-    pub copy-more : (c ≡ 3 → ⊥) → {x : ℕ} {last : List ℕ} → (x, last) ≡ poured end (c ∷ []) out → length old < 9223372036854775808
-        → CopySoFar plate at from old x last next
-    copy-more h f l =
-        record {
-          front = s .front ++ (c ∷ []);
-          text = so-far-more (s .text) c next (known-character plate bit copy-known e) h;
-          written = then _ _ _ _ _ _ _ (s .written) f l;
-        }
+    pub copy-rest : {x : ℕ} {last : List ℕ} (next : ℕ) → Whole w plate bit end out x last next → length old < 9223372036854775808
+        → Whole w plate at from old x last next
+    copy-rest next h l =
+        let e = then _ _ _ _ _ _ _ (s .written) (h .0) l in (
+          e ∙ ap (λ t. poured from t old) (values (untilETX w (placeAt plate bit)) refl ∙ ap valuesOf (s .text .whole)),
+          h .1 ∙ ends (untilETX w (placeAt plate bit)) ∙ ap (endWith 0) (s .text .whole),
+        )
+      where
+        values : (m : Read Text) → m ≡ untilETX w (placeAt plate bit) → s .front ++ valuesOf m ≡ valuesOf (behind (s .front) m)
+        values (got t q) e = refl
+        values (stopped cause b) e = absurd (copy-known .good e)
+
+        ends : (m : Read Text) → endWith 0 m ≡ endWith 0 (behind (s .front) m)
+        ends (got t q) = refl
+        ends (stopped cause b) = refl
+
+    module _ {c : ℕ} (next : ℕ) (e : got c (placeAt plate next) ≡ number w (placeAt plate bit)) where
+      pub copy-ended : c ≡ 3 → Whole w plate at from old end out next
+      copy-ended h =
+          let t = so-far-ended some-bits (s .text) c next (known-character plate bit copy-known e) h in
+          (s .written ∙ ap (λ m. poured from (valuesOf m) old) t, ap (endWith 0) t)
+
+      pub copy-more : (c ≡ 3 → ⊥) → {x : ℕ} {last : List ℕ} → (x, last) ≡ poured end (c ∷ []) out → length old < 9223372036854775808
+          → CopySoFar w plate at from old x last next
+      copy-more h f l =
+          record {
+            front = s .front ++ (c ∷ []);
+            text = so-far-more some-bits (s .text) c next (known-character plate bit copy-known e) h;
+            written = then _ _ _ _ _ _ _ (s .written) f l;
+          }

@@ -1,7 +1,7 @@
-// The characters of a plate: 7 bits each, up to ETX.
+// The characters of a plate: of 7 or 8 bits each, up to ETX.
 ghost use mathlib.Core.Path.{_≡_};
 ghost use mathlib.Core.Bool.{_||_};
-ghost use Prim.Native.Nat.{_≤_};
+ghost use Prim.Native.Nat.{_≤_, _<_};
 ghost use lib.ListN.{length};
 ghost use lib.Dec.{eqb};
 ghost use Rattle.causes.specs.Limits.{mostPlateBytes};
@@ -16,13 +16,13 @@ use fields::Field;
 use fields::read_plain;
 
 // Whether a number is a byte of a text.
-fn is_plain(code: usize) -> bool
+fn is_text_byte(code: usize) -> bool
     ensures { λ r. ⌜ r ≡ textByte code ⌝ }
 {
     if code < 32 {
         return false;
     }
-    if 126 < code {
+    if code == 127 {
         return false;
     }
     code != 44
@@ -35,15 +35,15 @@ fn is_character(code: usize) -> bool
     if code == 3 {
         return true;
     }
-    is_plain(code)
+    is_text_byte(code)
 }
 
-// A character, or ETX.
-fn read_character(plate: &[u8], at: usize) -> Field
-    requires { ⌜ length (now plate) ≤ mostPlateBytes ⌝ }
-    ensures { λ r. ⌜ fieldRead (now (plate .entry)) r ≡ character (placeAt (now (plate .entry)) at) ⌝ }
+// A character of so many bits, or ETX.
+fn read_character(plate: &[u8], at: usize, width: usize) -> Field
+    requires { ⌜ (width ≤ 8) × (length (now plate) ≤ mostPlateBytes) ⌝ }
+    ensures { λ r. ⌜ fieldRead (now (plate .entry)) r ≡ character width (placeAt (now (plate .entry)) at) ⌝ }
 {
-    let field = read_plain(plate, at, 7);
+    let field = read_plain(plate, at, width);
     let Field::Is(code, next) = field else {
         return field;
     };
@@ -56,15 +56,15 @@ fn read_character(plate: &[u8], at: usize) -> Field
     })
 }
 
-// How many characters stand before ETX, and the bit behind it: one by one.
-pub fn last_size(plate: &[u8], at: usize) -> Field
-    requires { ⌜ length (now plate) ≤ mostPlateBytes ⌝ }
-    ensures { λ r. ⌜ sizeRead (now (plate .entry)) at r ≡ untilETX (placeAt (now (plate .entry)) at) ⌝ }
+// How many characters of so many bits stand before ETX, and the bit behind it: one by one.
+pub fn last_size(plate: &[u8], at: usize, width: usize) -> Field
+    requires { ⌜ (0 < width) × (width ≤ 8) × (length (now plate) ≤ mostPlateBytes) ⌝ }
+    ensures { λ r. ⌜ sizeRead width (now (plate .entry)) at r ≡ untilETX width (placeAt (now (plate .entry)) at) ⌝ }
 {
     let mut size = 0;
     let mut bit = at;
     loop {
-        let field = read_character(plate, bit);
+        let field = read_character(plate, bit, width);
         let Field::Is(code, next) = field else {
             return field;
         };
@@ -76,16 +76,16 @@ pub fn last_size(plate: &[u8], at: usize) -> Field
     }
 }
 
-// The same, eight characters read at once; one by one where fewer than eight bytes are left.
+// The same of 7 bits, eight characters read at once; one by one where fewer than eight bytes are left.
 pub fn read_size(plate: &[u8], at: usize) -> Field
     requires { ⌜ length (now plate) ≤ mostPlateBytes ⌝ }
-    ensures { λ r. ⌜ sizeRead (now (plate .entry)) at r ≡ untilETX (placeAt (now (plate .entry)) at) ⌝ }
+    ensures { λ r. ⌜ sizeRead 7 (now (plate .entry)) at r ≡ untilETX 7 (placeAt (now (plate .entry)) at) ⌝ }
 {
     let mut size = 0;
     let mut bit = at;
     loop {
         let Wide::Is(eight) = bits_in::read_eight(plate, bit) else {
-            let last = last_size(plate, bit);
+            let last = last_size(plate, bit, 7);
             let Field::Is(more, next) = last else {
                 return last;
             };
@@ -98,7 +98,7 @@ pub fn read_size(plate: &[u8], at: usize) -> Field
             if code == 3 {
                 return Field::Is(size, bit + 7);
             }
-            if !is_plain(code) {
+            if !is_text_byte(code) {
                 return Field::Refused(Refusal {
                     cause: Cause::Spelling,
                     place: bit,

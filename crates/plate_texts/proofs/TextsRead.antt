@@ -10,9 +10,9 @@ use borrow.Author.Tests.{leb-true}
 use Rattle.causes.specs.declared.Cause.{Cause}
 use Rattle.causes.specs.declared.Cause.the-variants.{Unused}
 use Rattle.bits.specs.Ahead.{aheadIn, partAhead}
-use Rattle.phrases.specs.Phrases.{Phrases}
+use Rattle.phrases.specs.Phrases.{Phrases, isNew}
 use Rattle.plate.specs.Reading.{Place, Read, got, stopped, Reader, number, judged, return, onward, _>>=_, many}
-use Rattle.plate.specs.Plate.{isTextCode, textBy, text, spelled, phrase}
+use Rattle.plate.specs.Plate.{isTextCode, textBy, text, spelled, isAccented, phrase}
 use Rattle.fields.specs.Places.{placeAt, measured, Known}
 use Rattle.plate_texts.proofs.Ended.{measured-alike}
 use Rattle.plate_texts.proofs.Known.{known-same, known-first, known-judged}
@@ -34,15 +34,15 @@ pub text-code : (c : Phrases) (n : ℕ) (plate : List ℕ) (at : ℕ) → n ≡ 
     → judged (number 2) (codeWith n) Unused (placeAt plate at) ≡ judged (number 2) (isTextCode c) Unused (placeAt plate at)
 text-code c n plate at e = judged-alike (number 2) (isTextCode c) Unused plate at (codeWith n) (code-alike c n e)
 
--- a code that is not 0 is 2, which is used only where there are phrases
-pub some-phrase : (n code : ℕ) (p q : Place) → got code q ≡ judged (number 2) (codeWith n) Unused p → (code ≡ 0 → ⊥) → 0 < n
-some-phrase n code p q e h = go code h (got-good p (gives-judged (codeWith n) Unused (gives-number 2)) e .1)
+-- a code that is neither 0 nor 1 is 2, which is used only where there are phrases
+pub some-phrase : (n code : ℕ) (p q : Place) → got code q ≡ judged (number 2) (codeWith n) Unused p → (code ≡ 0 → ⊥) → (code ≡ 1 → ⊥) → 0 < n
+some-phrase n code p q e h k = go code h k (got-good p (gives-judged (codeWith n) Unused (gives-number 2)) e .1)
   where
-    go : (k : ℕ) → (k ≡ 0 → ⊥) → codeWith n k ≡ true → 0 < n
-    go zero h t = absurd (h refl)
-    go (suc zero) h t = absurd (false≢true t)
-    go (suc (suc zero)) h t = leb-true 1 n t
-    go (suc (suc (suc k))) h t = absurd (false≢true t)
+    go : (k : ℕ) → (k ≡ 0 → ⊥) → (k ≡ 1 → ⊥) → codeWith n k ≡ true → 0 < n
+    go zero h k t = absurd (h refl)
+    go (suc zero) h k t = absurd (k refl)
+    go (suc (suc zero)) h k t = leb-true 1 n t
+    go (suc (suc (suc j))) h k t = absurd (false≢true t)
 
 -- where a text is known to be good, its code need not be judged
 known-code : (c : Phrases) (plate : List ℕ) (at : ℕ) → Known (text c (placeAt plate at))
@@ -67,23 +67,27 @@ module _ (c : Phrases) (plate : List ℕ) (at : ℕ) (w : Known (text c (placeAt
 
 -- it is that of a phrase only where there are some
 pub known-phrase : (c : Phrases) (plate : List ℕ) (at code : ℕ) (q : Place) → got code q ≡ judged (number 2) (isTextCode c) Unused (placeAt plate at)
-    → (code ≡ 0 → ⊥) → 0 < length (c .book) + length (c .own)
-known-phrase c plate at code q e h =
-    some-phrase (length (c .book) + length (c .own)) code (placeAt plate at) q (e ∙ sym (text-code c _ plate at refl)) h
+    → (code ≡ 0 → ⊥) → (code ≡ 1 → ⊥) → 0 < length (c .book) + length (c .own)
+known-phrase c plate at code q e h k =
+    some-phrase (length (c .book) + length (c .own)) code (placeAt plate at) q (e ∙ sym (text-code c _ plate at refl)) h k
 
-pub by-spelled : (c : Phrases) (q : Place) (code : ℕ) → code ≡ 0 → spelled (c .book) (c .own) q ≡ textBy c code q
+pub by-spelled : (c : Phrases) (q : Place) (code : ℕ) → code ≡ 0 → spelled 7 (isNew (c .book) (c .own)) q ≡ textBy c code q
 by-spelled c q code z = rw z
 
-pub by-phrase : (c : Phrases) (q : Place) (code : ℕ) → (code ≡ 0 → ⊥) → phrase (c .book) (c .own) q ≡ textBy c code q
-by-phrase c q zero h = absurd (h refl)
-by-phrase c q (suc k) h = refl
+pub by-accented : (c : Phrases) (q : Place) (code : ℕ) → code ≡ 1 → spelled 8 (isAccented (c .book) (c .own)) q ≡ textBy c code q
+by-accented c q code z = rw z
 
--- a code that is neither 0 nor 2
-pub unused-code : (n k : ℕ) → (k ≡ 0 → ⊥) → (k ≡ 2 → ⊥) → false ≡ codeWith n k
-unused-code n zero h g = absurd (h refl)
-unused-code n (suc zero) h g = refl
-unused-code n (suc (suc zero)) h g = absurd (g refl)
-unused-code n (suc (suc (suc k))) h g = refl
+pub by-phrase : (c : Phrases) (q : Place) (code : ℕ) → (code ≡ 0 → ⊥) → (code ≡ 1 → ⊥) → phrase (c .book) (c .own) q ≡ textBy c code q
+by-phrase c q zero h k = absurd (h refl)
+by-phrase c q (suc zero) h k = absurd (k refl)
+by-phrase c q (suc (suc j)) h k = refl
+
+-- a code that is none of 0, 1 and 2
+pub unused-code : (n k : ℕ) → (k ≡ 0 → ⊥) → (k ≡ 1 → ⊥) → (k ≡ 2 → ⊥) → false ≡ codeWith n k
+unused-code n zero h f g = absurd (h refl)
+unused-code n (suc zero) h f g = absurd (f refl)
+unused-code n (suc (suc zero)) h f g = absurd (g refl)
+unused-code n (suc (suc (suc k))) h f g = refl
 
 -- ---- one behind the other
 

@@ -15,6 +15,6 @@ pub record Lent (plate index book own : List ℕ) (count : ℕ) : Type 0 where
 -- the code of a text, with n phrases
 abbrev pub codeWith : ℕ → ℕ → Bool
 codeWith n zero = true
-codeWith n (suc zero) = false
+codeWith n (suc zero) = true
 codeWith n (suc (suc zero)) = leb 1 n
 codeWith n (suc (suc (suc k))) = false

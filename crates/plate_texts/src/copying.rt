@@ -5,6 +5,7 @@ use fields::Copied;
 use fields::Field;
 use fields::read_plain;
 use plate_characters::copy_characters;
+use plate_characters::copy_each;
 ghost use mathlib.Core.Path.{_≡_};
 ghost use Prim.Native.Nat.{_+_, _*_, _≤_, _<_};
 ghost use lib.ListN.{length, getD};
@@ -59,7 +60,11 @@ pub fn copy_text<'a>(
     ensures { λ r. ⌜ got 0 (placeAt (now (plate .entry)) (r .next)) ≡ endWith 0 (reader.text (phrasesIn (now (book .entry)) (now (own .entry)) count) (placeAt (now (plate .entry)) at)) ⌝ }
 {
     let ahead = bits_ahead::read_ahead(plate, at);
-    if bits_ahead::part_ahead(ahead, 0, 2) != 0 {
+    let code = bits_ahead::part_ahead(ahead, 0, 2);
+    if code == 1 {
+        return copy_each(plate, at + 2, 8, out, from);
+    }
+    if code != 0 {
         return copy_phrase(plate, ahead, at, index, book, own, count, out, from);
     }
     copy_characters(plate, at + 2, out, from)

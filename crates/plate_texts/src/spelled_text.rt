@@ -1,4 +1,4 @@
-// A text that is spelled out: its characters up to ETX, judged as a whole at its first bit.
+// A text that is spelled out in characters of 7 bits: up to ETX, judged as a whole at its first bit.
 ghost use mathlib.Core.Path.{_≡_};
 ghost use Prim.Native.Nat.{_≤_};
 ghost use lib.ListN.{length};
@@ -18,7 +18,7 @@ use plate_characters::copy_each;
 use plate_characters::last_size;
 
 // Whether a text is no phrase.
-fn is_new(index: &[u32], book: &[u8], own: &[u8], count: usize, text: &[u8]) -> bool
+pub fn is_new(index: &[u32], book: &[u8], own: &[u8], count: usize, text: &[u8]) -> bool
     requires { ⌜ Indexed (now index) (now book) × OwnNumbers (now index) (now book) (now own) count ⌝ }
     ensures { λ r. ⌜ r ≡ isNew (bookTexts (now (book .entry))) (ownTexts count (now (own .entry))) (now (text .entry)) ⌝ }
 {
@@ -49,11 +49,11 @@ pub fn is_no_phrase(
     own: &[u8],
     count: usize,
 ) -> bool
-    requires { ⌜ (length (now plate) ≤ mostPlateBytes) × Indexed (now index) (now book) × OwnNumbers (now index) (now book) (now own) count × Known (untilETX (placeAt (now plate) bit)) × (size ≡ length (valuesOf (untilETX (placeAt (now plate) bit)))) × (size ≤ 64) ⌝ }
-    ensures { λ r. ⌜ r ≡ isNew (bookTexts (now (book .entry))) (ownTexts count (now (own .entry))) (valuesOf (untilETX (placeAt (now (plate .entry)) bit))) ⌝ }
+    requires { ⌜ (length (now plate) ≤ mostPlateBytes) × Indexed (now index) (now book) × OwnNumbers (now index) (now book) (now own) count × Known (untilETX 7 (placeAt (now plate) bit)) × (size ≡ length (valuesOf (untilETX 7 (placeAt (now plate) bit)))) × (size ≤ 64) ⌝ }
+    ensures { λ r. ⌜ r ≡ isNew (bookTexts (now (book .entry))) (ownTexts count (now (own .entry))) (valuesOf (untilETX 7 (placeAt (now (plate .entry)) bit))) ⌝ }
 {
     let mut characters = [0u8; 64];
-    copy_each(plate, bit, &mut characters, 0);
+    copy_each(plate, bit, 7, &mut characters, 0);
     is_new(index, book, own, count, &characters[..size])
 }
 
@@ -67,9 +67,9 @@ pub fn read_spelled(
     count: usize,
 ) -> Field
     requires { ⌜ (length (now plate) ≤ mostPlateBytes) × Indexed (now index) (now book) × OwnNumbers (now index) (now book) (now own) count ⌝ }
-    ensures { λ r. ⌜ sizeRead (now (plate .entry)) at r ≡ spelled (bookTexts (now (book .entry))) (ownTexts count (now (own .entry))) (placeAt (now (plate .entry)) at) ⌝ }
+    ensures { λ r. ⌜ sizeRead 7 (now (plate .entry)) at r ≡ spelled 7 (isNew (bookTexts (now (book .entry))) (ownTexts count (now (own .entry)))) (placeAt (now (plate .entry)) at) ⌝ }
 {
-    let field = last_size(plate, at);
+    let field = last_size(plate, at, 7);
     let Field::Is(size, next) = field else {
         return field;
     };

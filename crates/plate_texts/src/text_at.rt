@@ -1,4 +1,5 @@
 // Texts of a plate that are read first: spelled out, or a phrase; and several, one behind the other.
+use crate::accented_text::pass_accented;
 use crate::phrase_place::pass_phrase;
 use crate::spelled_text::is_no_phrase;
 use crate::spelled_text::is_sized;
@@ -27,6 +28,7 @@ fn is_code(code: usize, n: usize) -> bool
 {
     match code {
         0 => true,
+        1 => true,
         2 => 1 <= n,
         _ => false,
     }
@@ -69,6 +71,9 @@ pub fn pass_text<'a>(
     let Field::Is(code, bit) = field else {
         return field;
     };
+    if code == 1 {
+        return pass_accented(plate, bit, index, book, own, count, front);
+    }
     if code != 0 {
         return pass_phrase(plate, ahead, at, index, book, own, count, front);
     }

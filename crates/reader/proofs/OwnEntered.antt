@@ -17,6 +17,7 @@ use Rattle.phrases.specs.Own.{ownNumber, OwnNumbers, Listed, OwnKept}
 use Rattle.phrases.proofs.Entries.{indexed-count}
 use Rattle.phrases.proofs.OwnEntries.{index-kept, kept-none, kept-more}
 use Rattle.plate.specs.Reading.{got}
+use Rattle.phrases.specs.Phrases.{isNew}
 use Rattle.plate.specs.Plate.{spelled}
 use Rattle.fields.specs.Places.{placeAt}
 use Rattle.reader.specs.Own.{phraseLine, ownLines}
@@ -76,7 +77,7 @@ pub record Line (own : List ℕ) (at end : ℕ) : Type 0 where
 module _ {plate book : List ℕ} {at count : ℕ} {old own first index : List ℕ} {bit end k : ℕ}
     (s : OwnEntered plate book at count old own first index bit end k) (more : k < count) (few : count ≤ 32) (room : 72 * count ≤ length old)
     (t : Text) (next : ℕ) (own′ : List ℕ) (end′ : ℕ) (counted : length old < 9223372036854775808)
-    (e : got t (placeAt plate next) ≡ spelled (bookTexts book) (ownTexts k own) (placeAt plate bit))
+    (e : got t (placeAt plate next) ≡ spelled 7 (isNew (bookTexts book) (ownTexts k own)) (placeAt plate bit))
     (w : (end′, own′) ≡ poured end (phraseLine t) own) where
   abbrev ts : List Text
   ts = s .read .texts

@@ -16,6 +16,7 @@ use Rattle.text.proofs.Valid.{TextsOk}
 use Rattle.text.proofs.Tests.{all-append, all-cons}
 use Rattle.phrases.specs.Lookup.{bookTexts, ownTexts}
 use Rattle.plate.specs.Reading.{Place, got, stopped, return}
+use Rattle.phrases.specs.Phrases.{isNew}
 use Rattle.plate.specs.Plate.{spelled, ownCount, ownFrom}
 use Rattle.plate.proofs.Spelled.{gives-spelled}
 use Rattle.fields.specs.Places.{placeAt, untilETX}
@@ -28,9 +29,9 @@ use Rattle.reader.proofs.OwnLines.{lines-more, lines-texts, lines-lengt
 
 -- the characters of a phrase that was read
 pub phrase-characters : (plate : List ℕ) (bit : ℕ) (book own : List Text) {t : Text} {q : Place}
-    → got t q ≡ spelled book own (placeAt plate bit) → got t q ≡ untilETX (placeAt plate bit)
+    → got t q ≡ spelled 7 (isNew book own) (placeAt plate bit) → got t q ≡ untilETX 7 (placeAt plate bit)
 unfolding spelled
-phrase-characters plate bit book own e = e ∙ sym (known-judged untilETX _ _ plate bit (got-known e))
+phrase-characters plate bit book own e = e ∙ sym (known-judged (untilETX 7) _ _ plate bit (got-known e))
 
 -- k of them are read and written, and with those behind them they are all own phrases
 pub record OwnSoFar (plate book : List ℕ) (at count : ℕ) (old own : List ℕ) (bit end k : ℕ) : Type 0 where
@@ -99,15 +100,15 @@ module _ {plate book : List ℕ} {at count : ℕ} {old own : List ℕ} {bit end 
     one-left : count - k ≡ suc (count - (k + 1))
     one-left = omega arith
 
-    pub own-stopped : {cause : Cause} {b : ℕ} → stopped cause b ≡ spelled (bookTexts book) (ownTexts k own) (placeAt plate bit)
+    pub own-stopped : {cause : Cause} {b : ℕ} → stopped cause b ≡ spelled 7 (isNew (bookTexts book) (ownTexts k own)) (placeAt plate bit)
         → stopped cause b ≡ ownFrom (bookTexts book) [] count (placeAt plate at)
     unfolding ownFrom
     own-stopped e =
         let e′ = rw own-texts at e in
-        ap (behind (s .texts)) (then-stopped (spelled (bookTexts book) (s .texts)) _ (placeAt plate bit) e′)
+        ap (behind (s .texts)) (then-stopped (spelled 7 (isNew (bookTexts book) (s .texts))) _ (placeAt plate bit) e′)
         ∙ (rw one-left at (s .whole))
 
-    pub own-left-stopped : {cause : Cause} {b : ℕ} → stopped cause b ≡ spelled (bookTexts book) (ownTexts k own) (placeAt plate bit)
+    pub own-left-stopped : {cause : Cause} {b : ℕ} → stopped cause b ≡ spelled 7 (isNew (bookTexts book) (ownTexts k own)) (placeAt plate bit)
         → own ≡ pour 0 (ownLines (ownUntil (bookTexts book) [] count (placeAt plate at))) old
     unfolding ownUntil
     own-left-stopped e =
@@ -117,7 +118,7 @@ module _ {plate book : List ℕ} {at count : ℕ} {old own : List ℕ} {bit end 
         ∙ (rw one-left at (s .until)))
 
     pub own-more : (t : Text) (next : ℕ) (own′ : List ℕ) (end′ : ℕ) → length old < 9223372036854775808
-        → got t (placeAt plate next) ≡ spelled (bookTexts book) (ownTexts k own) (placeAt plate bit)
+        → got t (placeAt plate next) ≡ spelled 7 (isNew (bookTexts book) (ownTexts k own)) (placeAt plate bit)
         → (end′, own′) ≡ poured end (phraseLine t) own → OwnSoFar plate book at count old own′ next end′ (k + 1)
     unfolding ownFrom ownUntil all
     own-more t next own′ end′ counted e w =
@@ -131,7 +132,7 @@ module _ {plate book : List ℕ} {at count : ℕ} {old own : List ℕ} {bit end 
           written = rw lines-more at (then 0 (ownLines (s .texts)) (phraseLine t) old end own (end′, own′) (s .written) w counted);
           whole =
               sym (behind-one (s .texts) t (ownFrom (bookTexts book) (s .texts ++ (t ∷ [])) n) (placeAt plate next))
-              ∙ ap (behind (s .texts)) (then-got (spelled (bookTexts book) (s .texts)) _ (placeAt plate bit) e′)
+              ∙ ap (behind (s .texts)) (then-got (spelled 7 (isNew (bookTexts book) (s .texts))) _ (placeAt plate bit) e′)
               ∙ (rw one-left at (s .whole));
           until =
               append-assoc (s .texts) (t ∷ []) (ownUntil (bookTexts book) (s .texts ++ (t ∷ [])) n (placeAt plate next))
@@ -140,7 +141,7 @@ module _ {plate book : List ℕ} {at count : ℕ} {old own : List ℕ} {bit end 
 
     -- the text is behind the earlier ones
     pub own-more-texts : (t : Text) (next : ℕ) (own′ : List ℕ) (end′ : ℕ) (counted : length old < 9223372036854775808)
-        (e : got t (placeAt plate next) ≡ spelled (bookTexts book) (ownTexts k own) (placeAt plate bit))
+        (e : got t (placeAt plate next) ≡ spelled 7 (isNew (bookTexts book) (ownTexts k own)) (placeAt plate bit))
         (w : (end′, own′) ≡ poured end (phraseLine t) own) → own-more t next own′ end′ counted e w .texts ≡ s .texts ++ (t ∷ [])
     unfolding own-more
     own-more-texts t next own′ end′ counted e w = refl

@@ -13,6 +13,7 @@ use Rattle.text.specs.Text.{Text}
 use Rattle.phrases.specs.Lookup.{ownTexts}
 use Rattle.phrases.specs.Own.{Listed}
 use Rattle.plate.specs.Reading.{Place, Read, got, stopped, Reader, _>>=_}
+use Rattle.phrases.specs.Phrases.{isNew}
 use Rattle.plate.specs.Plate.{spelled, ownCount, ownFrom}
 use Rattle.fields.specs.declared.Field as field
 use Rattle.fields.specs.declared.Field.the-variants as fields
@@ -66,7 +67,7 @@ whenRead (stopped cause bit) f = []
 -- the own phrases that are read before the first refusal, at most n, each judged against the book and the earlier ones
 unfoldable pub ownUntil : List Text → List Text → ℕ → Place → List Text
 ownUntil book earlier zero p = []
-ownUntil book earlier (suc n) p = whenRead (spelled book earlier p) (λ t q. t ∷ ownUntil book (earlier ++ (t ∷ [])) n q)
+ownUntil book earlier (suc n) p = whenRead (spelled 7 (isNew book earlier) p) (λ t q. t ∷ ownUntil book (earlier ++ (t ∷ [])) n q)
 
 -- as many as their number says; none where it is refused
 abbrev pub ownCounted : List Text → Read ℕ → List Text

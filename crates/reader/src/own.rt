@@ -48,11 +48,11 @@ fn read_count(plate: &[u8], at: usize) -> Field
 
 // A line `phrase,TEXT` of the characters from a bit on, up to ETX.
 fn put_phrase(plate: &[u8], bit: usize, own: &mut [u8], at: usize) -> usize
-    requires { ⌜ (length (now plate) ≤ mostPlateBytes) × Known (untilETX (placeAt (now plate) bit)) ⌝ }
-    ensures { λ r. ⌜ (r, now (own .exit)) ≡ poured at (phraseLine (valuesOf (untilETX (placeAt (now (plate .entry)) bit)))) (now (own .entry)) ⌝ }
+    requires { ⌜ (length (now plate) ≤ mostPlateBytes) × Known (untilETX 7 (placeAt (now plate) bit)) ⌝ }
+    ensures { λ r. ⌜ (r, now (own .exit)) ≡ poured at (phraseLine (valuesOf (untilETX 7 (placeAt (now (plate .entry)) bit)))) (now (own .entry)) ⌝ }
 {
     let text_at = text_out::put(own, at, b"phrase,");
-    let copied = copy_each(plate, bit, own, text_at);
+    let copied = copy_each(plate, bit, 7, own, text_at);
     text_out::put_byte(own, copied.end, b'\n')
 }
 

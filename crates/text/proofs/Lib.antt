@@ -1,8 +1,12 @@
 pub mod Valid
 pub mod Tests
 pub mod Splits
+pub mod Table
+pub mod Letters
+pub mod Fields
 pub mod Bytes
 pub mod Sizes
 pub mod Places
 pub mod Searches
 pub mod Flags
+pub mod Windows

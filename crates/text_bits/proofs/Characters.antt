@@ -20,12 +20,12 @@ use Rattle.text_bits.proofs.TextBits.{spelled-next, spelled-end}
 module _ (t : Text) (i w v : ℕ) where
   -- a character
   pub character-behind : (next : ℕ) → i < length t → next ≡ i + 1
-      → bitsOf w v ++ spelledBits (drop i t) ≡ bitsOf (w + 7) (v * 128 + getD t i 0 % 128) ++ spelledBits (drop next t)
-  character-behind next h e = rw (spelled-next t i h, ← append-assoc, e, bits-behind w 7 v (getD t i 0)) refl
+      → bitsOf w v ++ spelledBits 7 (drop i t) ≡ bitsOf (w + 7) (v * 128 + getD t i 0 % 128) ++ spelledBits 7 (drop next t)
+  character-behind next h e = rw (spelled-next 7 t i h, ← append-assoc, e, bits-behind w 7 v (getD t i 0)) refl
 
   -- ETX, as the last one
-  pub end-behind : length t ≤ i → bitsOf w v ++ spelledBits (drop i t) ≡ bitsOf (w + 7) (v * 128 + 3)
-  end-behind h = rw (spelled-end t i h) (sym (bits-behind w 7 v ETX))
+  pub end-behind : length t ≤ i → bitsOf w v ++ spelledBits 7 (drop i t) ≡ bitsOf (w + 7) (v * 128 + 3)
+  end-behind h = rw (spelled-end 7 t i h) (sym (bits-behind w 7 v ETX))
 
 -- eight bytes are below 256 each
 abbrev pub EightBelow : List ℕ → ℕ → Type 0
@@ -38,12 +38,12 @@ eight-below bytes i h =
     (h i .fits, h (i + 1) .fits, h (i + 2) .fits, h (i + 3) .fits, h (i + 4) .fits, h (i + 5) .fits, h (i + 6) .fits, h (i + 7) .fits)
 
 -- eight characters as one number
-pub eight-next : (t : Text) (i : ℕ) → i + 7 < length t → spelledBits (drop i t)
+pub eight-next : (t : Text) (i : ℕ) → i + 7 < length t → spelledBits 7 (drop i t)
     ≡ bitsOf 56 (((((((getD t i 0 * 128 + getD t (i + 1) 0 % 128) * 128 + getD t (i + 2) 0 % 128) * 128 + getD t (i + 3) 0 % 128) * 128
     + getD t (i + 4) 0 % 128) * 128 + getD t (i + 5) 0 % 128) * 128 + getD t (i + 6) 0 % 128) * 128 + getD t (i + 7) 0 % 128)
-    ++ spelledBits (drop (i + 8) t)
+    ++ spelledBits 7 (drop (i + 8) t)
 eight-next t i h =
-    spelled-next t i (omega arith)
+    spelled-next 7 t i (omega arith)
     ∙ character-behind t (i + 1) 7 _ (i + 2) (omega arith) (omega arith)
     ∙ character-behind t (i + 2) 14 _ (i + 3) (omega arith) (omega arith)
     ∙ character-behind t (i + 3) 21 _ (i + 4) (omega arith) (omega arith)
@@ -54,12 +54,12 @@ eight-next t i h =
 
 -- what goes before the characters of t from the place i on is the number `value` of `width` bits, with room for the rest in 56 bits
 pub record Gathered (whole : List Bool) (t : Text) (i width value : ℕ) : Type 0 where
-  pub bits : bitsOf width value ++ spelledBits (drop i t) ≡ whole
+  pub bits : bitsOf width value ++ spelledBits 7 (drop i t) ≡ whole
   pub below : value < 2 ^ (width + 8)
   pub room : width + (length t - i) * 7 ≤ 49
 
 pub gather-start : (t : Text) (i width value : ℕ) → value < 2 ^ (width + 8) → width + (length t - i) * 7 ≤ 49
-    → Gathered (bitsOf width value ++ spelledBits (drop i t)) t i width value
+    → Gathered (bitsOf width value ++ spelledBits 7 (drop i t)) t i width value
 gather-start t i width value h k = record { bits = refl; below = h; room = k }
 
 module _ {whole : List Bool} {t : Text} {i width value : ℕ} (g : Gathered whole t i width value) where

@@ -9,10 +9,14 @@ use lib.Pow.{pow-pos, pow-mono, shl-exact}
 use Rattle.bits.specs.Bits.{bitsOf}
 use Rattle.bits.proofs.Fields.{bits-behind}
 
--- w bits of v, and behind them the first bits of a text: 00 where it is spelled, 10 where it is a phrase, and the bit that says book or own
+-- w bits of v, and behind them the first bits of a text: 00 where it is spelled in 7 bits, 01 where in 8 bits, 10 where it is a phrase, and
+-- the bit that says book or own
 module _ (w v : ℕ) where
   pub spelled-code : bitsOf (w + 2) (v * 4) ≡ bitsOf w v ++ bitsOf 2 0
   spelled-code = let e : v * 4 + 0 ≡ v * 4 = omega arith in rw e at (bits-behind w 2 v 0)
+
+  pub bytes-code : bitsOf (w + 2) (v * 4 + 1) ≡ bitsOf w v ++ bitsOf 2 1
+  bytes-code = bits-behind w 2 v 1
 
   pub phrase-code : bitsOf (w + 2) (v * 4 + 2) ≡ bitsOf w v ++ bitsOf 2 2
   phrase-code = bits-behind w 2 v 2

@@ -14,13 +14,13 @@ use Rattle.phrases.specs.Phrases.{Phrases, width}
 use Rattle.phrases.proofs.Width.{width-least}
 use Rattle.plate.specs.Writing.{ETX, spelledBits, ownBit, textBits, textsBits}
 
--- the characters from the place i on
-module _ (t : Text) (i : ℕ) where
-  pub spelled-next : i < length t → spelledBits (drop i t) ≡ bitsOf 7 (getD t i 0) ++ spelledBits (drop (i + 1) t)
+-- the characters from the place i on, of k bits each
+module _ (k : ℕ) (t : Text) (i : ℕ) where
+  pub spelled-next : i < length t → spelledBits k (drop i t) ≡ bitsOf k (getD t i 0) ++ spelledBits k (drop (i + 1) t)
   unfolding spelledBits
   spelled-next h = rw (drop-cons t i 0 h, add-one)
 
-  pub spelled-end : length t ≤ i → spelledBits (drop i t) ≡ bitsOf 7 ETX
+  pub spelled-end : length t ≤ i → spelledBits k (drop i t) ≡ bitsOf k ETX
   unfolding spelledBits
   spelled-end h = rw (drop-of-length-le t h)
 

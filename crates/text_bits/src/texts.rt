@@ -9,13 +9,13 @@ ghost use Rattle.bits.specs.Bits.{bitsOf, bytesBits};
 ghost use Rattle.text.specs.Parts.{comma, partsFrom};
 ghost use Rattle.phrases.specs.Lookup.{bookTexts, ownTexts, phrasesIn};
 ghost use Rattle.phrases.specs.Own.{Listed};
-ghost use Rattle.plate.specs.Writing.{spelledBits, ownBit, textBits, textsBits};
+ghost use Rattle.plate.specs.Writing.{spelledBits, spelledText, ownBit, textBits, textsBits};
 use phrases::Found;
 
 // Eight characters from the place i on, 7 bits each, as one number.
 fn eight(text: &[u8], i: usize) -> usize
     requires { ⌜ i + 7 < length (now text) ⌝ }
-    ensures { λ r. ⌜ spelledBits (drop i (now (text .entry))) ≡ bitsOf 56 r ++ spelledBits (drop (i + 8) (now (text .entry))) ⌝ }
+    ensures { λ r. ⌜ spelledBits 7 (drop i (now (text .entry))) ≡ bitsOf 56 r ++ spelledBits 7 (drop (i + 8) (now (text .entry))) ⌝ }
 {
     let a = (text[i] as usize * 128 + text[i + 1] as usize % 128) * 128
         + text[i + 2] as usize % 128;
@@ -34,7 +34,7 @@ fn put_rest(
     from: usize,
 ) -> usize
     requires { ⌜ (from ≤ length (now text)) × (prefix + (length (now text) - from) * 7 ≤ 49) × (front < 2 ^ (prefix + 8)) ⌝ }
-    ensures { λ r. ⌜ (r, bytesBits (now (out .exit))) ≡ poured at (bitsOf prefix front ++ spelledBits (drop from (now (text .entry)))) (bytesBits (now (out .entry))) ⌝ }
+    ensures { λ r. ⌜ (r, bytesBits (now (out .exit))) ≡ poured at (bitsOf prefix front ++ spelledBits 7 (drop from (now (text .entry)))) (bytesBits (now (out .entry))) ⌝ }
 {
     let mut value = front;
     let mut width = prefix;
@@ -50,7 +50,7 @@ fn put_rest(
 // The characters of a text in 7 bits each, then ETX.
 pub fn put_spelled(out: &mut [u8], at: usize, text: &[u8]) -> usize
     requires { ⌜ length (now out) ≤ mostPlateBytes ⌝ }
-    ensures { λ r. ⌜ (r, bytesBits (now (out .exit))) ≡ poured at (spelledBits (now (text .entry))) (bytesBits (now (out .entry))) ⌝ }
+    ensures { λ r. ⌜ (r, bytesBits (now (out .exit))) ≡ poured at (spelledBits 7 (now (text .entry))) (bytesBits (now (out .entry))) ⌝ }
 {
     let mut end = at;
     let mut i = 0;
@@ -59,6 +59,20 @@ pub fn put_spelled(out: &mut [u8], at: usize, text: &[u8]) -> usize
         i += 8;
     }
     put_rest(out, end, 0, 0, text, i)
+}
+
+// The bytes of a text in 8 bits each, then ETX.
+fn put_bytes(out: &mut [u8], at: usize, text: &[u8]) -> usize
+    requires { ⌜ length (now out) ≤ mostPlateBytes ⌝ }
+    ensures { λ r. ⌜ (r, bytesBits (now (out .exit))) ≡ poured at (spelledBits 8 (now (text .entry))) (bytesBits (now (out .entry))) ⌝ }
+{
+    let mut end = at;
+    let mut i = 0;
+    while i < text.len() {
+        end = bits_out::put_bits(out, end, 8, text[i] as usize);
+        i += 1;
+    }
+    bits_out::put_bits(out, end, 8, 3)
 }
 
 // `width` bits of a number, then the lowest `places` bits of another, as one number.
@@ -105,16 +119,30 @@ fn put_place(
     put_behind(out, at, width + 3, coded * 2 + source, places, i)
 }
 
-// What goes before a text that is no phrase, `width` bits of a number; then 00, and the text spelled. All that is one number where the text is short.
-fn put_new(out: &mut [u8], at: usize, width: usize, front: usize, text: &[u8]) -> usize
+// What goes before an ASCII text that is no phrase, `width` bits of a number; then 00, and the text in 7 bits. All that is one number where
+// the text is short.
+fn put_plain(out: &mut [u8], at: usize, width: usize, front: usize, text: &[u8]) -> usize
     requires { ⌜ (length (now out) ≤ mostPlateBytes) × (width ≤ 8) × (front < 256) ⌝ }
-    ensures { λ r. ⌜ (r, bytesBits (now (out .exit))) ≡ poured at (bitsOf width front ++ bitsOf 2 0 ++ spelledBits (now (text .entry))) (bytesBits (now (out .entry))) ⌝ }
+    ensures { λ r. ⌜ (r, bytesBits (now (out .exit))) ≡ poured at (bitsOf width front ++ bitsOf 2 0 ++ spelledBits 7 (now (text .entry))) (bytesBits (now (out .entry))) ⌝ }
 {
     if text.len() <= 5 {
         return put_rest(out, at, width + 2, front * 4, text, 0);
     }
     let end = bits_out::put_bits(out, at, width + 2, front * 4);
     put_spelled(out, end, text)
+}
+
+// What goes before a text that is no phrase, `width` bits of a number; then 00 and the text in 7 bits where it is ASCII, else 01 and the
+// text in 8 bits.
+fn put_new(out: &mut [u8], at: usize, width: usize, front: usize, text: &[u8]) -> usize
+    requires { ⌜ (length (now out) ≤ mostPlateBytes) × (width ≤ 8) × (front < 256) ⌝ }
+    ensures { λ r. ⌜ (r, bytesBits (now (out .exit))) ≡ poured at (bitsOf width front ++ spelledText (now (text .entry))) (bytesBits (now (out .entry))) ⌝ }
+{
+    if utf8::is_ascii(text) {
+        return put_plain(out, at, width, front, text);
+    }
+    let end = bits_out::put_bits(out, at, width + 2, front * 4 + 1);
+    put_bytes(out, end, text)
 }
 
 // What goes before a text, `width` bits of a number; then the text, which stands in a line from a to e: a phrase's place where it is a phrase,

@@ -14,10 +14,7 @@ fn is_allowed(b: u8) -> bool
     if b < 32 {
         return false;
     }
-    if 126 < b {
-        return false;
-    }
-    true
+    b != 127
 }
 
 // Whether every byte is allowed. The loop does not stop at a byte that is not, so that it can take many at a time.
@@ -128,7 +125,10 @@ pub fn is_text(s: &[u8]) -> bool
     if 64 < s.len() {
         return false;
     }
-    are_text_bytes(s)
+    if are_text_bytes(s) {
+        return utf8::well_formed(s);
+    }
+    false
 }
 
 // Whether every field from field k on is a text.

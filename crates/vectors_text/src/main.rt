@@ -1,4 +1,5 @@
-// Tries the crates of texts and numbers on the cases of its standard input: texts, parts of a text, and decimal numbers read and written.
+// Tries the crates of texts and numbers on the cases of its standard input: texts, letters, parts of a text, and decimal numbers read and
+// written.
 // Writes a line for each case; model/README.md has the format.
 use decimals::Constant;
 use decimals::Natural;
@@ -100,6 +101,11 @@ fn read_find(line: &mut [u8], s: &[u8], at: usize) -> usize {
     text_out::put_byte(line, end, b'\n')
 }
 
+// Whether the bytes are well-formed UTF-8.
+fn read_letters(line: &mut [u8], s: &[u8], at: usize) -> usize {
+    put_yes(line, utf8::well_formed(vectors::slice(s, at)))
+}
+
 // The line of a writer: the place behind what it wrote, and the whole lent buffer.
 fn put_line(line: &mut [u8], place: usize, out: &[u8]) -> usize {
     let end = text_out::put_natural(line, 0, place);
@@ -137,6 +143,7 @@ fn case(line: &mut [u8], s: &[u8], kind: usize, at: usize, space: &mut [u8]) -> 
         4 => read_constant(line, s, at),
         8 => read_same(line, s, at),
         9 => read_find(line, s, at),
+        10 => read_letters(line, s, at),
         _ => put_case(line, s, kind, at, space),
     }
 }
@@ -144,7 +151,7 @@ fn case(line: &mut [u8], s: &[u8], kind: usize, at: usize, space: &mut [u8]) -> 
 // The place behind a case.
 fn behind(s: &[u8], kind: usize, at: usize) -> usize {
     match kind {
-        0 | 4 => vectors::past_slice(s, at),
+        0 | 4 | 10 => vectors::past_slice(s, at),
         1 | 3 => vectors::past_slice(s, vectors::past(at, 4)),
         2 => vectors::past_slice(s, vectors::past(at, 8)),
         5 | 6 => vectors::past(at, 16),

@@ -96,6 +96,33 @@ pub fn spelled() -> Vec<u8> {
     (prints + &inputs).into_bytes()
 }
 
+/// 44 prints of 64 bytes, each 31 letters of 2 bytes and two of ASCII, and an input, all spelled: a plate of 2,903 bytes.
+pub fn lettered() -> Vec<u8> {
+    let prints =
+        lines(44, |place| format!("print,{}{}", "é".repeat(MAX_TEXT / 2 - 1), upper(place)));
+    (prints + "input,0,Ōtorohanga\n").into_bytes()
+}
+
+/// 40 names of 15 to 19 bytes, each with letters beyond ASCII.
+pub fn names_book() -> Vec<u8> {
+    lines(40, name).into_bytes()
+}
+
+fn name(place: usize) -> String {
+    let town = ["Tāwhiao", "Ōtorohanga", "São João", "Łódź"][place % 4];
+    format!("{town} line {:02}", place % 40)
+}
+
+/// So many prints and questions, a multiple of 4, whose texts are names of that book.
+pub fn named(instructions: usize) -> Vec<u8> {
+    let four = |place: usize| {
+        let [a, b, c] = [3, 5, 7].map(|step| name(place * step));
+        let r = place % 32;
+        format!("inputs,{r},{a},{b},{c}\nprint,{b}\ninput,{r},{c}\nprint,{a}")
+    };
+    lines(instructions / 4, four).into_bytes()
+}
+
 fn upper(place: usize) -> String {
     word(place).to_uppercase()
 }

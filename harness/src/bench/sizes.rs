@@ -20,7 +20,9 @@ lines    512 lines print,a, and their plate, empty book
 asked    512 lines input,0,a, and their plate, empty book
 tests    400 ifs without a block, half of them with a constant of 32 bits, empty book
 own      a listing of 32 own phrases of 13 bytes and 400 prints of them, and its plate, empty book
-plate    the plate of 2,953 bytes of spelled texts, empty book";
+plate    the plate of 2,953 bytes of spelled texts, empty book
+letters  44 prints of 64 bytes, nearly all of them letters beyond ASCII, and an input, all spelled, empty book
+names    64 instructions, whose texts are names with letters beyond ASCII, of a book of 40 such names";
 
 /// A size, how it is made, and the calls that are measured on it.
 pub struct Size {
@@ -29,7 +31,7 @@ pub struct Size {
     pub calls: &'static [Call],
 }
 
-pub const ALL: [Size; 12] = [
+pub const ALL: [Size; 14] = [
     Size { name: "small", subject: small, calls: &Call::ALL },
     Size { name: "middle", subject: middle, calls: &Call::ALL },
     Size { name: "large", subject: guide, calls: &[Call::Translate, Call::Walk] },
@@ -42,6 +44,8 @@ pub const ALL: [Size; 12] = [
     Size { name: "tests", subject: ifs, calls: &Call::ALL },
     Size { name: "own", subject: own, calls: &OF_LISTING },
     Size { name: "plate", subject: plate, calls: &OF_LISTING },
+    Size { name: "letters", subject: letters, calls: &Call::ALL },
+    Size { name: "names", subject: names, calls: &Call::ALL },
 ];
 
 /// The work of a call at a size.
@@ -101,6 +105,14 @@ fn ifs() -> Subject {
 
 fn own() -> Subject {
     Subject::of_listing(own_prints(), Vec::new(), Vec::new())
+}
+
+fn letters() -> Subject {
+    Subject::of_guide(lettered(), Vec::new(), zeros())
+}
+
+fn names() -> Subject {
+    Subject::of_guide(named(64), names_book(), zeros())
 }
 
 fn plate() -> Subject {

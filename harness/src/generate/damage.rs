@@ -1,13 +1,14 @@
-//! Damage beyond the model's: bytes flipped, cut out, put in and doubled.
+//! Damage beyond the model's: bytes flipped, cut out, put in and doubled, and letters beyond ASCII spoiled.
 
 use model::cases::Source;
-use model::generate::{damage, words::Words};
+use model::generate::{damage, letters, words::Words};
 use model::rng::Rng;
 
 /// Damages a guide, listing or plate.
 pub fn input(rng: &mut Rng, source: Source, bytes: &mut Vec<u8>) {
     for _ in 0..rng.between(1, 3) {
-        match (rng.below(8), source) {
+        match (rng.below(9), source) {
+            (8, _) => letters::spoil(rng, bytes),
             (0, _) => double(rng, bytes),
             (1, _) => cut_out(rng, bytes),
             (2, _) => put_in(rng, bytes),
@@ -21,7 +22,8 @@ pub fn input(rng: &mut Rng, source: Source, bytes: &mut Vec<u8>) {
 
 /// Damages a book, or takes another.
 pub fn book(rng: &mut Rng, bytes: &mut Vec<u8>) {
-    match rng.below(6) {
+    match rng.below(7) {
+        6 => letters::spoil(rng, bytes),
         0 => *bytes = Words::new(rng).book_bytes(),
         1 => double(rng, bytes),
         2 => cut_out(rng, bytes),

@@ -1,10 +1,10 @@
 //! Inputs at the limits of documents 01 and 02 and one past them.
 
-use super::lines::{add, add_short, add_text, text_of};
+use super::lines::{add, add_short, add_text, lettered_text, text_of};
 use super::stored;
 use model::cases::{sizes, word, Source};
 use model::generate::words::{constant, op, register};
-use model::generate::Sample;
+use model::generate::{letters, Sample};
 use model::limits::{MAX_BOOK, MAX_GUIDE, MAX_INSTRUCTIONS, MAX_LEVELS, MAX_LISTING, MAX_OWN};
 use model::limits::{MAX_PLATE, MAX_TEXT};
 use model::rng::Rng;
@@ -20,7 +20,9 @@ pub fn sample(rng: &mut Rng, source: Source) -> Sample {
 /// A guide or listing.
 fn text(rng: &mut Rng, source: Source) -> Sample {
     let with = |input: Vec<u8>| Sample { input, book: Vec::new() };
-    match rng.below(12) {
+    match rng.below(14) {
+        12 => with(lettered(rng)),
+        13 => with(full_of_letters(rng)),
         0 => with(instructions(rng, source)),
         1 => bytes(rng, source),
         2 => with(levels(rng)),
@@ -141,7 +143,9 @@ fn phrase_line(rng: &mut Rng) -> Vec<u8> {
         add_text(rng, &mut out, b"before");
     }
     let length = *rng.pick(&[0, 1, 2, MAX_TEXT, MAX_TEXT, MAX_TEXT + 1]);
-    add(&mut out, &[b"phrase,", &text_of(rng, length)[..]].concat());
+    let text =
+        if rng.once_in(6) { lettered_text(rng, length.max(2)) } else { text_of(rng, length) };
+    add(&mut out, &[b"phrase,", &text[..]].concat());
     for _ in 0..rng.below(4) {
         add_text(rng, &mut out, b"after");
     }
@@ -160,13 +164,32 @@ fn texts(rng: &mut Rng) -> Vec<u8> {
     out
 }
 
+/// Texts of 2 to 66 bytes with letters beyond ASCII, at times a byte more or less.
+fn lettered(rng: &mut Rng) -> Vec<u8> {
+    let mut out = Vec::new();
+    for _ in 0..rng.between(1, 6) {
+        let length = *rng.pick(&[2, 3, 4, MAX_TEXT - 1, MAX_TEXT, MAX_TEXT]);
+        let length = if rng.once_in(8) { MAX_TEXT + rng.between(1, 2) } else { length };
+        let mut text = lettered_text(rng, length);
+        if rng.once_in(12) {
+            text.pop();
+        }
+        add_text(rng, &mut out, &text);
+    }
+    out
+}
+
 /// A book of 255, 256 or 257 phrases of 64 bytes, and lines that use it or nearly do.
 fn full_book(rng: &mut Rng) -> Sample {
     let mut seen = HashSet::new();
     let mut phrases: Vec<Vec<u8>> = Vec::new();
     let count = about(rng, MAX_BOOK);
+    let lettered = rng.once_in(3);
     while phrases.len() < count {
-        let text = text_of(rng, MAX_TEXT);
+        let text = match lettered {
+            true => letters::text(rng, MAX_TEXT),
+            false => text_of(rng, MAX_TEXT),
+        };
         if seen.insert(text.clone()) {
             phrases.push(text);
         }
@@ -175,7 +198,7 @@ fn full_book(rng: &mut Rng) -> Sample {
     for _ in 0..rng.between(0, 6) {
         let mut text = rng.pick(&phrases).clone();
         if rng.once_in(4) {
-            text.pop();
+            letters::drop_last(&mut text);
         }
         add_text(rng, &mut input, &text);
     }
@@ -197,6 +220,22 @@ fn full_plate(rng: &mut Rng) -> Vec<u8> {
     }
     let last = (left / 7).saturating_sub(1).clamp(1, MAX_TEXT);
     let text = text_of(rng, last);
+    add(&mut out, &[b"print,", &text[..]].concat());
+    out
+}
+
+/// The same with letters beyond ASCII, which take 8 bits to a byte.
+fn full_of_letters(rng: &mut Rng) -> Vec<u8> {
+    let mut out = Vec::new();
+    let bits_of = |length: usize| 5 + 8 * (length + 1);
+    let mut left = MAX_PLATE * 8 - 11;
+    while left > bits_of(MAX_TEXT) {
+        let text = lettered_text(rng, MAX_TEXT);
+        add(&mut out, &[b"print,", &text[..]].concat());
+        left -= bits_of(text.len());
+    }
+    let last = (left / 8).saturating_sub(1).clamp(2, MAX_TEXT);
+    let text = lettered_text(rng, last);
     add(&mut out, &[b"print,", &text[..]].concat());
     out
 }

@@ -1,6 +1,8 @@
 //! Lines of guides and listings, one by one.
 
+use model::cases::utf8;
 use model::cases::Source;
+use model::generate::letters;
 use model::generate::words::{constant, fresh_text, op, register};
 use model::rng::Rng;
 
@@ -12,7 +14,7 @@ pub fn add(out: &mut Vec<u8>, line: &[u8]) {
 
 /// Lines of at most two instructions of a guide, or one of a listing, with short texts. Answers how many.
 pub fn add_short(rng: &mut Rng, source: Source, out: &mut Vec<u8>, left: usize) -> usize {
-    let text = String::from_utf8(fresh_text(rng, true)).expect("letters");
+    let text = String::from_utf8(fresh_text(rng, true, true)).expect("letters");
     let test = format!("if,{},{},{}", register(rng), op(rng), constant(rng));
     match (rng.below(12), source) {
         (0, Source::Listing) => add(out, format!("goto,{}", rng.below(left)).as_bytes()),
@@ -36,6 +38,17 @@ pub fn add_text(rng: &mut Rng, out: &mut Vec<u8>, text: &[u8]) {
         1 => add(out, &[b"inputs,0,", text, b",a,", text].concat()),
         2 => add(out, &[b"printex,", text].concat()),
         _ => add(out, &[b"print,", text].concat()),
+    }
+}
+
+/// A text with letters beyond ASCII: many, of at most this length, or one over and over, of just this length.
+pub fn lettered_text(rng: &mut Rng, length: usize) -> Vec<u8> {
+    match rng.once_in(3) {
+        true => letters::text(rng, length),
+        false => {
+            let letter: &&str = rng.pick(&utf8::LETTERS);
+            utf8::text_of(letter, length).into_bytes()
+        }
     }
 }
 

@@ -4,9 +4,10 @@
 //! - `example_files --check DIR` compares those files with the model's.
 //!
 //! NAME.show is what plateshow prints, with an empty book. NAME.run has the runs
-//! of the guide's plate with the book `relay.book`, one for each list of answers.
+//! of the guide's plate, one for each list of answers, with the book NAME.book, or
+//! `relay.book` where there is none.
 
-use model::examples::{BOOK, GUIDES};
+use model::examples::{Example, GUIDES};
 use model::show::plateshow;
 use std::path::Path;
 use std::process::ExitCode;
@@ -15,7 +16,7 @@ use std::{env, fs};
 const USAGE: &str = "usage: example_files [--check] DIR";
 
 /// The lists of answers of each guide.
-const ANSWERS: [(&str, &[&[i32]]); 7] = [
+const ANSWERS: [(&str, &[&[i32]]); 8] = [
     ("breaker-open", &[&[0], &[1, 0], &[1, 1, 0, 1, 1], &[1, 1, 0, 0, 90], &[1, 1, 4]]),
     (
         "ct-open",
@@ -31,6 +32,7 @@ const ANSWERS: [(&str, &[&[i32]]); 7] = [
     ("incident", &[&[110, 1, 200], &[110, 0], &[110, 1, 5000], &[90, 0], &[110]]),
     ("reclose-lockout", &[&[0, 0], &[1, 1, 1, 0, 0], &[4, 1, 3], &[2, 1, 3, 1], &[0, 1, 3, 1]]),
     ("sf6-low", &[&[600, 20], &[520, 20, 1], &[520, -30, 0], &[450, 10, 0], &[450, 10]]),
+    ("town-names", &[&[33, 0, 1], &[33, 0, 0], &[11, 1, 3], &[11, 1, 20], &[33, 2], &[33, 3]]),
     ("trip-coil", &[&[90, 120], &[145], &[110, 0], &[110, 1, 2000], &[110, 1, 200, 1]]),
 ];
 
@@ -54,21 +56,22 @@ fn main() -> ExitCode {
 /// All files, by their names.
 fn files() -> Vec<(String, Vec<u8>)> {
     let mut files = Vec::new();
-    for ((name, guide), (answered, lists)) in GUIDES.into_iter().zip(ANSWERS) {
-        assert_eq!(name, answered, "the tables have one order");
-        files.push((format!("{name}.show"), plateshow(guide)));
-        files.push((format!("{name}.run"), runs(guide, lists).into_bytes()));
+    for (example, (answered, lists)) in GUIDES.into_iter().zip(ANSWERS) {
+        assert_eq!(example.name, answered, "the tables have one order");
+        files.push((format!("{answered}.show"), plateshow(example.guide)));
+        files.push((format!("{answered}.run"), runs(&example, lists).into_bytes()));
     }
     files
 }
 
 /// The runs of a guide's plate: the answers, the transcript, and how it ended.
-fn runs(guide: &[u8], lists: &[&[i32]]) -> String {
-    let plate = model::translate(guide, BOOK).expect("an accepted guide");
+fn runs(example: &Example, lists: &[&[i32]]) -> String {
+    let Example { guide, book, .. } = *example;
+    let plate = model::translate(guide, book).expect("an accepted guide");
     let mut text = String::new();
     for answers in lists {
-        let record = model::run(&plate, BOOK, answers).expect("an accepted plate");
-        assert_eq!(model::walk(guide, BOOK, answers).as_ref(), Ok(&record));
+        let record = model::run(&plate, book, answers).expect("an accepted plate");
+        assert_eq!(model::walk(guide, book, answers).as_ref(), Ok(&record));
         let list: String = answers.iter().map(|answer| format!(",{answer}")).collect();
         text += &format!("answers{list}\n");
         text += &String::from_utf8_lossy(&record.transcript);

@@ -7,7 +7,7 @@ pub const GROUPS: &[super::Group] = &[("plate_cuts", cuts)];
 /// A notation, its book and its listing.
 type Plate = (&'static str, &'static str, &'static str);
 
-const PLATES: [Plate; 4] = [
+const PLATES: [Plate; 5] = [
     (
         "0 5:10 000 0:5 00 'Volts'; 101 0:5 2:3 00 100:16 2:9 011 00 'Fuse'; 100 0:9 010 00 'OK';",
         "",
@@ -31,6 +31,11 @@ const PLATES: [Plate; 4] = [
         "1 4:5 'a'; 'b'; 'c'; 'd'; 'e'; 3:10 010 10 4:3 010 10 0:3 010 00 'f';",
         "",
         "phrase,a\nphrase,b\nphrase,c\nphrase,d\nphrase,e\nprint,e\nprint,a\nprint,f\n",
+    ),
+    (
+        "1 0:5 'a'; 3:10 000 2:5 01 <Tāwhiao>| 001 3:5 10 0 0:3 01 <São João>| 00 'no'; 011 10 1",
+        "Łódź\n",
+        "phrase,a\ninput,2,Tāwhiao\ninputs,3,Łódź,São João,no\nprintex,a\n",
     ),
 ];
 

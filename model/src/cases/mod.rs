@@ -4,6 +4,9 @@
 pub mod books;
 pub mod cuts;
 pub mod guides;
+pub mod lettered;
+pub mod lettered_books;
+pub mod letters;
 pub mod listings;
 pub mod notation;
 pub mod order;
@@ -13,6 +16,7 @@ pub mod shared;
 pub mod sizes;
 pub mod steps;
 pub mod texts;
+pub mod utf8;
 pub mod widths;
 
 /// What an input is, and so which calls take it.
@@ -48,14 +52,14 @@ pub enum Expected {
 pub use Expected::{Accepted, Gives, OnlyWalked, Refused};
 
 /// A guide or listing, and what it gives.
-pub fn case(source: Source, input: &str, book: &[u8], expected: Expected) -> Case {
-    Case { source, input: input.as_bytes().to_vec(), book: book.to_vec(), expected }
+pub fn case(source: Source, input: impl AsRef<[u8]>, book: &[u8], expected: Expected) -> Case {
+    Case { source, input: input.as_ref().to_vec(), book: book.to_vec(), expected }
 }
 
 /// The same text as a guide and as a listing.
-pub fn guide_and_listing(input: &str, book: &[u8], expected: Expected) -> Vec<Case> {
+pub fn guide_and_listing(input: impl AsRef<[u8]>, book: &[u8], expected: Expected) -> Vec<Case> {
     [Source::Guide, Source::Listing]
-        .map(|source| case(source, input, book, expected.clone()))
+        .map(|source| case(source, &input, book, expected.clone()))
         .to_vec()
 }
 
@@ -71,12 +75,12 @@ pub fn gives_plate(notation: &str) -> Expected {
 }
 
 /// A plate in [`notation`] that is read as a listing.
-pub fn read_as(notation: &str, book: &[u8], listing: &str) -> Case {
+pub fn read_as(notation: &str, book: &[u8], listing: impl AsRef<[u8]>) -> Case {
     Case {
         source: Source::Plate,
         input: notation::plate(notation).bytes(),
         book: book.to_vec(),
-        expected: Gives(listing.as_bytes().to_vec()),
+        expected: Gives(listing.as_ref().to_vec()),
     }
 }
 
@@ -130,4 +134,7 @@ pub const GROUPS: &[&[Group]] = &[
     order::GROUPS,
     plates::GROUPS,
     cuts::GROUPS,
+    letters::GROUPS,
+    lettered_books::GROUPS,
+    lettered::GROUPS,
 ];

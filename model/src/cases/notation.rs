@@ -1,7 +1,8 @@
 //! A notation for plates written by hand, apart from the plate writer.
 //!
 //! Blanks part the fields. `0101` are bits, `5:10` is a number in 10 bits,
-//! `'OK'` are characters of 7 bits each, `;` is ETX, and `^` marks a place.
+//! `'OK'` are characters of 7 bits each, `;` is their ETX, `<é>` are bytes of 8
+//! bits each, `|` is their ETX, and `^` marks a place.
 
 use std::ops::Range;
 
@@ -28,15 +29,14 @@ pub fn plate(notation: &str) -> Written {
                 written.number(3, 7);
                 1
             }
-            '\'' => {
-                let end = rest[1..].find('\'').expect("an ending quote");
-                for byte in rest[1..=end].bytes() {
-                    written.number(i64::from(byte), 7);
-                }
-                end + 2
+            '|' => {
+                written.number(3, 8);
+                1
             }
+            '\'' => written.characters(&rest[1..], '\'', 7),
+            '<' => written.characters(&rest[1..], '>', 8),
             _ => {
-                let end = rest.find([' ', ';', '\'']).unwrap_or(rest.len());
+                let end = rest.find([' ', ';', '\'', '|', '<']).unwrap_or(rest.len());
                 written.token(&rest[..end]);
                 end
             }
@@ -46,7 +46,21 @@ pub fn plate(notation: &str) -> Written {
     written
 }
 
+/// Any bytes, each a number in 8 bits.
+pub fn in_8_bits(bytes: &[u8]) -> String {
+    bytes.iter().map(|byte| format!(" {byte}:8")).collect()
+}
+
 impl Written {
+    /// Characters of this width up to `end`; answers how much of the notation they are.
+    fn characters(&mut self, from: &str, end: char, width: usize) -> usize {
+        let length = from.find(end).expect("an end of the characters");
+        for byte in from[..length].bytes() {
+            self.number(i64::from(byte), width);
+        }
+        length + 2
+    }
+
     fn token(&mut self, token: &str) {
         match token.split_once(':') {
             Some((value, width)) => {

@@ -151,11 +151,9 @@ fn texts() -> Vec<Case> {
     ];
     let mut cases = Vec::new();
     for place in places {
-        for code in ["01", "11"] {
-            let notation = format!("0 {place} ^{code} 'a';");
-            cases.push(refused_at_mark(13, &notation, b""));
-            cases.push(refused_at_mark(13, &notation, b"b\n"));
-        }
+        let unused = format!("0 {place} ^11 'a';");
+        cases.push(refused_at_mark(13, &unused, b""));
+        cases.push(refused_at_mark(13, &unused, b"b\n"));
         let no_phrases = format!("0 {place} ^10 'a';");
         cases.push(refused_at_mark(13, &no_phrases, b""));
         let of_book = format!("0 {place} 00 ^'a';");

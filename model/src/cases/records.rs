@@ -21,6 +21,7 @@ pub const GROUPS: &[RecordGroup] = &[
     ("choices", choices),
     ("comparisons", comparisons),
     ("registers_kept", registers_kept),
+    ("letters", letters),
     ("steps", super::steps::steps),
     ("jumps", super::steps::jumps),
     ("longest_transcripts", super::steps::longest_transcripts),
@@ -165,5 +166,25 @@ fn registers_kept() -> Vec<RecordCase> {
         guide(again, "", &[10, 20], "Q,a\nA,10\nQ,b\nA,20\nS,c\n", (1, 2, 4)),
         guide(again, "", &[20, 10], "Q,a\nA,20\nQ,b\nA,10\n", (1, 2, 3)),
         guide(wrong, "", &[3, 3], "Q,a\nA,3\nC,b,c,d\n", (3, 1, 3)),
+    ]
+}
+
+/// Texts with letters beyond ASCII stand in the transcript byte by byte.
+fn letters() -> Vec<RecordCase> {
+    let book = "Tāwhiao\nŌtorohanga\n";
+    let input = "inputs,0,Kei hea?,Tāwhiao,Łódź,São João\nif,0,eq,1\nprintex,Łódź\nfi\n\
+                 input,1,Ōtorohanga kV\nprint,Ōtorohanga\n";
+    let asked = "C,Kei hea?,Tāwhiao,Łódź,São João\n";
+    let all = format!("{asked}A,0\nQ,Ōtorohanga kV\nA,33\nS,Ōtorohanga\n");
+    let long = super::utf8::text_of("\u{10FFFF}", 64);
+    let own = "1 0:5 'p'; 3:10 010 10 1 010 10 0 1:1 011 01 <é€😀>|";
+    vec![
+        guide(input, book, &[1], &format!("{asked}A,1\nV,Łódź\n"), (0, 1, 3)),
+        guide(input, book, &[0, 33], &all, (1, 2, 4)),
+        guide(input, "", &[0, 33], &all, (1, 2, 4)),
+        guide(input, book, &[], asked, (2, 0, 1)),
+        guide(&format!("printex,{long}\n"), "", &[], &format!("V,{long}\n"), (0, 0, 1)),
+        guide("print,\u{80}\n", "\u{FEFF}\n", &[], "S,\u{80}\n", (1, 0, 1)),
+        plate(own, book, &[], "S,p\nS,Ōtorohanga\nV,é€😀\n", (0, 0, 3)),
     ]
 }

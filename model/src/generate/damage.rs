@@ -1,11 +1,12 @@
 //! Damage to guides, listings, books and plates.
 
+use super::letters;
 use super::words::fresh_text;
 use crate::limits::MAX_PLATE;
 use crate::rng::Rng;
 
 /// Lines that are wrong in most places.
-const ODD_LINES: [&str; 18] = [
+const ODD_LINES: [&str; 22] = [
     "",
     "else",
     "fi",
@@ -24,10 +25,14 @@ const ODD_LINES: [&str; 18] = [
     "if,0,eq,2147483648",
     "else,",
     "verdict,a",
+    "phrase,é",
+    "prínt,a",
+    "print,\u{FEFF}",
+    "input,é,a",
 ];
 
 /// Fields that are wrong in most places.
-const ODD_FIELDS: [&str; 14] = [
+const ODD_FIELDS: [&str; 17] = [
     "",
     "-0",
     "00",
@@ -42,13 +47,18 @@ const ODD_FIELDS: [&str; 14] = [
     "2147483648",
     "eq",
     " eq",
+    "é",
+    "1é",
+    "eq\u{301}",
 ];
 
-const ODD_BYTES: &[u8] = b"\0\t\r\x1F ,-0~\x7F\x80\xFF\n";
+const ODD_BYTES: &[u8] = b"\0\t\r\x1F ,-0~\x7F\x80\xA9\xC3\xE2\xED\xF0\xF4\xFF\n";
 
 /// Damages a text of lines.
 pub fn text(rng: &mut Rng, bytes: &mut Vec<u8>) {
-    match rng.below(12) {
+    match rng.below(14) {
+        12 => letters::put_in(rng, bytes),
+        13 => letters::spoil(rng, bytes),
         0 => flip_bits(rng, bytes, 1),
         1 => {
             if let Some(at) = any_place(rng, bytes) {
@@ -100,8 +110,8 @@ fn change_field(rng: &mut Rng, line: &mut Vec<u8>) {
     let at = rng.below(fields.len());
     let is_last = at + 1 == fields.len();
     fields[at] = match rng.below(4) {
-        0 => [fresh_text(rng, false), b"x".repeat(64)].concat(),
-        1 => fresh_text(rng, false),
+        0 => [fresh_text(rng, false, true), b"x".repeat(64)].concat(),
+        1 => fresh_text(rng, false, true),
         _ => rng.pick(&ODD_FIELDS).as_bytes().to_vec(),
     };
     if is_last {
@@ -112,7 +122,7 @@ fn change_field(rng: &mut Rng, line: &mut Vec<u8>) {
 
 /// Makes a text longer than its limit, or just as long.
 pub fn lengthen(rng: &mut Rng, bytes: &mut Vec<u8>, limit: usize) {
-    let line = [b"print,", &fresh_text(rng, false)[..], b"\n"].concat();
+    let line = [b"print,", &fresh_text(rng, false, false)[..], b"\n"].concat();
     while bytes.len() < limit {
         bytes.extend_from_slice(&line);
     }

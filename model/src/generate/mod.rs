@@ -2,6 +2,7 @@
 
 pub mod damage;
 pub mod guides;
+pub mod letters;
 pub mod listings;
 pub mod plates;
 pub mod words;

@@ -1,5 +1,6 @@
 //! Books, own phrases, texts, registers and constants.
 
+use super::letters;
 use crate::action::Op;
 use crate::rng::Rng;
 use std::collections::HashSet;
@@ -12,17 +13,20 @@ pub struct Words {
     fresh_share: usize,
     /// Whether texts have one or two characters, so that many lines fit.
     short: bool,
+    /// Whether texts of the book and fresh ones may have letters beyond ASCII.
+    lettered: bool,
 }
 
 impl Words {
     pub fn new(rng: &mut Rng) -> Self {
         let short = rng.once_in(4);
+        let lettered = rng.once_in(3);
         let mut seen = HashSet::new();
         let book_count = book_count(rng);
-        let book = different(rng, book_count, short, &mut seen);
+        let book = different(book_count, &mut seen, || fresh_text(rng, short, lettered));
         let own_count = own_count(rng);
-        let own = different(rng, own_count, short, &mut seen);
-        Words { book, own, fresh_share: *rng.pick(&[0, 4, 8, 16]), short }
+        let own = different(own_count, &mut seen, || plain_text(rng, short));
+        Words { book, own, fresh_share: *rng.pick(&[0, 4, 8, 16]), short, lettered }
     }
 
     pub fn book_bytes(&self) -> Vec<u8> {
@@ -34,7 +38,8 @@ impl Words {
         bytes
     }
 
-    /// The `phrase` lines of a listing. At times one is the book's, or the last is the 33rd.
+    /// The `phrase` lines of a listing. At times one is the book's or has a letter
+    /// beyond ASCII, or the last is the 33rd.
     pub fn phrase_lines(&self, rng: &mut Rng) -> Vec<u8> {
         let mut bytes = Vec::new();
         let mut add = |text: &[u8]| bytes.extend_from_slice(&[b"phrase,", text, b"\n"].concat());
@@ -43,6 +48,9 @@ impl Words {
         }
         if !self.book.is_empty() && rng.once_in(80) {
             add(rng.pick(&self.book[..]).as_slice());
+        }
+        if self.lettered && rng.once_in(60) {
+            add(&letters::text(rng, 8));
         }
         if self.own.len() == 32 && rng.once_in(8) {
             add(b"the 33rd phrase");
@@ -57,11 +65,11 @@ impl Words {
             false => &self.own,
         };
         if phrases.is_empty() || rng.below(16) < self.fresh_share {
-            return fresh_text(rng, self.short);
+            return fresh_text(rng, self.short, self.lettered);
         }
         let mut text = rng.pick(phrases).clone();
         match rng.below(16) {
-            0 if text.len() > 1 => text.truncate(text.len() - 1),
+            0 => letters::drop_last(&mut text),
             1 if text.len() < 64 => text.push(b'a'),
             _ => {}
         }
@@ -92,14 +100,13 @@ fn own_count(rng: &mut Rng) -> usize {
 
 /// Texts that are not in `seen` nor the same as each other.
 fn different(
-    rng: &mut Rng,
     count: usize,
-    short: bool,
     seen: &mut HashSet<Vec<u8>>,
+    mut text: impl FnMut() -> Vec<u8>,
 ) -> Vec<Vec<u8>> {
     let mut texts = Vec::new();
     while texts.len() < count {
-        let text = fresh_text(rng, short);
+        let text = text();
         if seen.insert(text.clone()) {
             texts.push(text);
         }
@@ -107,14 +114,29 @@ fn different(
     texts
 }
 
-pub fn fresh_text(rng: &mut Rng, short: bool) -> Vec<u8> {
-    let length = match rng.below(24) {
+/// How many bytes a text has, or at most has.
+fn text_length(rng: &mut Rng, short: bool) -> usize {
+    match rng.below(24) {
         _ if short => rng.between(1, 2),
         0 => 64,
         1 => rng.between(13, 63),
         2..=6 => 1,
         _ => rng.between(2, 10),
-    };
+    }
+}
+
+/// A text; every second one has letters beyond ASCII where they are asked for.
+pub fn fresh_text(rng: &mut Rng, short: bool, lettered: bool) -> Vec<u8> {
+    if lettered && rng.once_in(2) {
+        let most = text_length(rng, short).max(2);
+        return letters::text(rng, most);
+    }
+    plain_text(rng, short)
+}
+
+/// A text of ASCII.
+pub fn plain_text(rng: &mut Rng, short: bool) -> Vec<u8> {
+    let length = text_length(rng, short);
     let letters_only = rng.once_in(2);
     (0..length)
         .map(|_| match rng.between(32, 126) as u8 {

@@ -1,7 +1,7 @@
 //! Reading a plate, field by field.
 
 use super::{is_short, width, ETX, GOTO, IF, INPUT, INPUTS, LONG};
-use super::{PHRASE, PRINT, PRINTEX, SHORT, SPELLED};
+use super::{PHRASE, PRINT, PRINTEX, SHORT, SPELLED, SPELLED_IN_BYTES};
 use crate::action::{Action, Op, Test};
 use crate::bits::BitReader;
 use crate::limits::{MAX_INSTRUCTIONS, MAX_OPTIONS, MAX_PLATE, MIN_OPTIONS};
@@ -58,6 +58,12 @@ impl Field {
     }
 }
 
+/// Whether a text may be spelled in 8 bits to a byte: it is well formed, and 7 bits
+/// are not enough for it.
+fn is_lettered(text: &[u8]) -> bool {
+    !text::is_plain(text) && text::is_well_formed(text)
+}
+
 impl<'a> Reader<'_, 'a> {
     /// The next field; one that does not fit is 12.
     fn field(&mut self, width: u32) -> Result<Field, Refusal> {
@@ -74,7 +80,7 @@ impl<'a> Reader<'_, 'a> {
         }
         let less_one = self.field(width::OWN_COUNT)?.value;
         for _ in 0..=less_one {
-            let (bit, text) = self.characters()?;
+            let (bit, text) = self.characters(width::CHARACTER)?;
             if !self.phrases.add_own(text) {
                 return refuse(cause::CONTENT, bit);
             }
@@ -172,16 +178,20 @@ impl<'a> Reader<'_, 'a> {
     fn text(&mut self) -> Result<&'a [u8], Refusal> {
         let code = self.field(width::TEXT_CODE)?;
         match code.value {
-            SPELLED => {
-                let (bit, text) = self.characters()?;
-                if self.phrases.find(text).is_some() {
-                    return refuse(cause::CONTENT, bit);
-                }
-                Ok(text)
-            }
+            SPELLED => self.spelled(width::CHARACTER, |_| true),
+            SPELLED_IN_BYTES => self.spelled(width::BYTE, is_lettered),
             PHRASE if !self.phrases.is_empty() => self.phrase(),
             _ => code.refuse(cause::CODE),
         }
+    }
+
+    /// A spelled text that `fits` and is no phrase; else it is 14 at its start.
+    fn spelled(&mut self, width: u32, fits: fn(&[u8]) -> bool) -> Result<&'a [u8], Refusal> {
+        let (bit, text) = self.characters(width)?;
+        if !fits(text) || self.phrases.find(text).is_some() {
+            return refuse(cause::CONTENT, bit);
+        }
+        Ok(text)
     }
 
     fn phrase(&mut self) -> Result<&'a [u8], Refusal> {
@@ -200,12 +210,13 @@ impl<'a> Reader<'_, 'a> {
         }
     }
 
-    /// The characters up to ETX, and the bit of the first character position.
-    fn characters(&mut self) -> Result<(usize, &'a [u8]), Refusal> {
+    /// The characters of this width up to ETX, and the bit of the first character
+    /// position. A character that may not stand in a text is 14 at its own bit.
+    fn characters(&mut self, width: u32) -> Result<(usize, &'a [u8]), Refusal> {
         let first_bit = self.bits.position();
         let mut length = 0;
         loop {
-            let field = self.field(width::CHARACTER)?;
+            let field = self.field(width)?;
             if field.value == ETX {
                 break;
             }

@@ -1,13 +1,14 @@
 //! Writing a plate.
 
 use super::{is_short, width, ETX, GOTO, IF, INPUT, INPUTS, LONG};
-use super::{PHRASE, PRINT, PRINTEX, SHORT, SPELLED};
+use super::{PHRASE, PRINT, PRINTEX, SHORT, SPELLED, SPELLED_IN_BYTES};
 use crate::action::{Action, Test};
 use crate::bits::BitWriter;
 use crate::limits::{MAX_PLATE, MIN_OPTIONS};
 use crate::phrases::{place_width, Phrases, Place};
 use crate::program::{Instruction, Program};
 use crate::refusal::{cause, refuse, Refusal};
+use crate::text;
 
 /// The plate of a program; over 2,953 bytes is 10.
 pub fn write(program: &Program) -> Result<Vec<u8>, Refusal> {
@@ -38,7 +39,7 @@ impl Writer<'_, '_> {
         self.bits.put(1, width::ANY_OWN);
         self.bits.put(own.len() as u32 - 1, width::OWN_COUNT);
         for phrase in own {
-            self.characters(phrase);
+            self.characters(phrase, width::CHARACTER);
         }
     }
 
@@ -109,10 +110,7 @@ impl Writer<'_, '_> {
     /// A text that is a phrase is always written as one.
     fn text(&mut self, text: &[u8]) {
         match self.phrases.find(text) {
-            None => {
-                self.bits.put(SPELLED, width::TEXT_CODE);
-                self.characters(text);
-            }
+            None => self.spelled(text),
             Some(place) => {
                 self.bits.put(PHRASE, width::TEXT_CODE);
                 self.phrase(place);
@@ -128,10 +126,20 @@ impl Writer<'_, '_> {
         self.bits.put(place.index as u32, place_width(count));
     }
 
-    fn characters(&mut self, text: &[u8]) {
+    /// A text with a byte of 128 or more takes 8 bits to a byte.
+    fn spelled(&mut self, text: &[u8]) {
+        let (code, width) = match text::is_plain(text) {
+            true => (SPELLED, width::CHARACTER),
+            false => (SPELLED_IN_BYTES, width::BYTE),
+        };
+        self.bits.put(code, width::TEXT_CODE);
+        self.characters(text, width);
+    }
+
+    fn characters(&mut self, text: &[u8], width: u32) {
         for &byte in text {
-            self.bits.put(u32::from(byte), width::CHARACTER);
+            self.bits.put(u32::from(byte), width);
         }
-        self.bits.put(ETX, width::CHARACTER);
+        self.bits.put(ETX, width);
     }
 }

@@ -13,8 +13,8 @@ const RANDOM: usize = 500;
 /// The longest random guide.
 const LONGEST: usize = 300;
 /// The groups of cases whose guides are left out, to keep the file small.
-const LEFT_OUT: [&str; 3] =
-    ["guide_bytes", "phrase_lines_at_limits", "order_at_the_last_instruction"];
+const LEFT_OUT: [&str; 4] =
+    ["guide_bytes", "phrase_lines_at_limits", "order_at_the_last_instruction", "letters_at_limits"];
 
 #[derive(Clone, Debug, PartialEq, Eq)]
 pub struct Case {
@@ -35,7 +35,7 @@ impl Case {
 
 pub fn collect() -> Vec<Case> {
     let mut guides: Vec<Vec<u8>> = worked().map(|guide| guide.as_bytes().to_vec()).to_vec();
-    guides.extend(GUIDES.map(|(_, guide)| guide.to_vec()));
+    guides.extend(GUIDES.iter().map(|example| example.guide.to_vec()));
     guides.extend(largest());
     guides.extend(limits());
     random(&mut guides);

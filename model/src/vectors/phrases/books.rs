@@ -1,6 +1,7 @@
 //! Books that are good, and books with a fault at each of their lines.
 
 use super::Case;
+use crate::cases::utf8::{self, text_of};
 use crate::cases::{book_of, lines, text, word};
 use crate::rng::Rng;
 
@@ -33,6 +34,7 @@ pub fn collect(rng: &mut Rng, cases: &mut Vec<Case>) {
     lengths(&mut add);
     counts(&mut add);
     repeats(rng, &mut add);
+    letters(&mut add);
 }
 
 /// Every length as the first line, a later one and the last, with its LF and
@@ -85,4 +87,27 @@ fn repeats(rng: &mut Rng, add: &mut impl FnMut(Vec<u8>)) {
             add([book_of(count), word(place).into_bytes(), b"\n".to_vec()].concat());
         }
     }
+}
+
+/// Every letter and every sequence that is none as a line; lines of letters about 64
+/// bytes; letters parted by LF or a comma; and repeats.
+fn letters(add: &mut impl FnMut(Vec<u8>)) {
+    for (bytes, _) in utf8::all() {
+        add([b"a\n", &bytes[..], b"\n"].concat());
+    }
+    for letter in ["é", "€", "😀"] {
+        for length in [62, 63, 64, 65, 66, 68] {
+            add(format!("a\n{}\nb\n", text_of(letter, length)).into_bytes());
+        }
+    }
+    let others: [&[u8]; 6] = [
+        b"\xC3\n\xA9\n",
+        b"\xC3,\xA9\n",
+        b"\xC3\xA9\na\n\xC3\xA9\n",
+        b"\xC3\xA9\n\xC3\xA8\ne\xCC\x81\n",
+        b"\xC3\xA9\x7F\n",
+        b"a\n\xC3\xA9",
+    ];
+    others.into_iter().for_each(|book| add(book.to_vec()));
+    add(lines(256, |place| word(place) + "é").into_bytes());
 }

@@ -26,6 +26,7 @@ pub fn collect() -> Vec<Case> {
     random(&mut rng, &mut cases);
     widths(&mut cases);
     collisions(&mut cases);
+    letters(&mut cases);
     cases
 }
 
@@ -135,7 +136,7 @@ fn random(rng: &mut Rng, cases: &mut Vec<Case>) {
         left -= 1;
         cases.push(Case::Check { book: book.clone() });
         let count = words.own.len() as u64;
-        let text = if rng.once_in(4) { fresh_text(rng, true) } else { words.text(rng) };
+        let text = if rng.once_in(4) { fresh_text(rng, true, true) } else { words.text(rng) };
         cases.push(Case::Find { book: book.clone(), own: own.clone(), count, text });
         let list = *rng.pick(&[List::Book, List::Own]);
         let place = rng.below(words.book.len().max(words.own.len()) + 2) as u64;
@@ -171,5 +172,20 @@ fn collisions(cases: &mut Vec<Case>) {
             let (book, own) = (book.clone(), b"phrase,ea\n".to_vec());
             cases.push(Case::Find { book, own, count: 1, text: text.clone() });
         }
+    }
+}
+
+/// Phrases with letters beyond ASCII: looked up, and their texts.
+fn letters(cases: &mut Vec<Case>) {
+    let book = "Łódź\nSão João\nTāwhiao\n".as_bytes();
+    let own = b"phrase,Lodz\nphrase,Otorohanga\n";
+    for text in ["Łódź", "Łódz", "Lodz", "São João", "Sa\u{303}o João", "Tāwhiao", "Ōtorohanga"]
+    {
+        let (book, own, text) = (book.to_vec(), own.to_vec(), text.as_bytes().to_vec());
+        cases.push(Case::Find { book, own, count: 2, text });
+    }
+    for place in 0..4 {
+        let (book, own) = (book.to_vec(), own.to_vec());
+        cases.push(Case::Text { book, own, list: List::Book, place });
     }
 }

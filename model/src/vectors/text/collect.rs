@@ -1,6 +1,6 @@
 //! The cases of `vectors_text`.
 
-use super::{numbers, Case};
+use super::{letters, numbers, Case};
 use crate::rng::Rng;
 
 const SEED: u64 = 0x5EED_0012;
@@ -22,6 +22,7 @@ pub fn collect() -> Vec<Case> {
     put(&mut rng, &mut cases);
     same(&mut rng, &mut cases);
     find(&mut rng, &mut cases);
+    letters::collect(&mut cases);
     cases
 }
 

@@ -1,6 +1,7 @@
 //! The cases of `vectors_text`: texts, parts of a text, and decimal numbers.
 
 mod collect;
+mod letters;
 mod numbers;
 
 pub use collect::collect;
@@ -9,11 +10,11 @@ use super::buffer::{pattern, shown};
 use super::stdin;
 use crate::number;
 use crate::show::upper_hex;
-use crate::text::{is_line_byte, is_text};
+use crate::text::{is_line_byte, is_text, is_well_formed};
 
 #[derive(Clone, Debug, PartialEq, Eq)]
 pub enum Case {
-    /// Whether the bytes are allowed on a line, and whether they are a text.
+    /// Whether each byte is allowed on a line, and whether they are a text.
     Text {
         bytes: Vec<u8>,
     },
@@ -59,6 +60,10 @@ pub enum Case {
         byte: u8,
         bytes: Vec<u8>,
     },
+    /// Whether the bytes are well-formed UTF-8.
+    WellFormed {
+        bytes: Vec<u8>,
+    },
 }
 
 impl Case {
@@ -75,6 +80,7 @@ impl Case {
             Case::Put { .. } => 7,
             Case::Same { .. } => 8,
             Case::Find { .. } => 9,
+            Case::WellFormed { .. } => 10,
         }
     }
 
@@ -82,7 +88,9 @@ impl Case {
     pub fn write(&self, out: &mut Vec<u8>) {
         stdin::number(out, self.kind());
         match self {
-            Case::Text { bytes } | Case::Constant { bytes } => stdin::slice(out, bytes),
+            Case::Text { bytes } | Case::Constant { bytes } | Case::WellFormed { bytes } => {
+                stdin::slice(out, bytes);
+            }
             Case::Parts { by, bytes } => {
                 stdin::number(out, usize::from(*by));
                 stdin::slice(out, bytes);
@@ -108,8 +116,7 @@ impl Case {
                 stdin::slice(out, bytes);
             }
             Case::Same { one, other } => {
-                stdin::slice(out, one);
-                stdin::slice(out, other);
+                [one, other].into_iter().for_each(|bytes| stdin::slice(out, bytes));
             }
             Case::Find { from, byte, bytes } => {
                 stdin::long_number(out, *from);
@@ -143,6 +150,7 @@ impl Case {
                 let found = bytes[from..].iter().position(|at| at == byte);
                 found.map_or(bytes.len(), |found| from + found).to_string()
             }
+            Case::WellFormed { bytes } => yes(is_well_formed(bytes)).to_owned(),
         };
         line + "\n"
     }

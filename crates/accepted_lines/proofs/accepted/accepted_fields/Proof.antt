@@ -4,6 +4,7 @@ use borrow.Author.Needs.{needs}
 use Rattle.text.specs.Parts.{comma, partsFrom}
 use Rattle.transcript.specs.Statement.{print, printex}
 use Rattle.lines.specs.Line.{says, elseLine, fiLine}
+use Rattle.text.specs.Text.{isText}
 use Rattle.lines.proofs.CleanLines.{text-clean, phrase-clean, bare-clean, of-kind, head-of-kind}
 use Rattle.accepted_lines.proofs.accepted.accepted_fields.Statement.{statement}
 use Rattle.accepted_lines.proofs.accepted.accepted_fields.Tie as tie
@@ -66,13 +67,13 @@ returns-4 : tie.Need-returns-4
 returns-4 c =
     let e = c .enum-told4 .given .1 in
     let fs = partsFrom comma (c .before .before .before .args .a) (c .before .before .before .args .s .now) in
-    head-of-kind _ fs e (text-clean (λ t. says (print t)) (λ t. refl) fs (of-kind (c .before .before .before .args .form) fs e (c .before .before .before .pre)))
+    head-of-kind _ fs e (text-clean isText (λ t. says (print t)) (λ t. refl) fs (of-kind (c .before .before .before .args .form) fs e (c .before .before .before .pre)))
 
 returns-5 : tie.Need-returns-5
 returns-5 c =
     let e = c .enum-told5 .given .1 in
     let fs = partsFrom comma (c .before .before .before .args .a) (c .before .before .before .args .s .now) in
-    head-of-kind _ fs e (text-clean (λ t. says (printex t)) (λ t. refl) fs (of-kind (c .before .before .before .args .form) fs e (c .before .before .before .pre)))
+    head-of-kind _ fs e (text-clean isText (λ t. says (printex t)) (λ t. refl) fs (of-kind (c .before .before .before .args .form) fs e (c .before .before .before .pre)))
 
 returns-6 : tie.Need-returns-6
 returns-6 c = head-of-kind _ _ (c .before .enum-told6 .given .1) (c .accepted-if .ensures)

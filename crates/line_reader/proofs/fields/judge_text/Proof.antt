@@ -4,6 +4,7 @@ use borrow.Author.Needs.{needs}
 use Rattle.text.specs.Parts.{comma}
 use Rattle.text.proofs.Places.{parts-none}
 use Rattle.lines.specs.Answers.{headOf}
+use Rattle.text.specs.Text.{isText}
 use Rattle.lines.proofs.FieldPlaces.{whole-rest, text-good, text-more, text-bad}
 use Rattle.line_reader.proofs.fields.judge_text.Statement.{statement}
 use Rattle.line_reader.proofs.fields.judge_text.Tie as tie
@@ -29,20 +30,20 @@ returns-2 : tie.Need-returns-2
 returns-2 c =
     let g = c .before .before .before .before .before .args in
     let good = sym (c .before .is-text .ensures) ∙ c .if2 .taken in
-    λ l _ h. sym (ap headOf (text-good (g .s .now) (g .a) l _ (whole-rest (g .s .now) (g .a)) (c .before .before .before .if1 .left) good) ∙ h _)
+    λ l _ h. sym (ap headOf (text-good (g .s .now) (g .a) isText l _ (whole-rest (g .s .now) (g .a)) (c .before .before .before .if1 .left) good good) ∙ h _)
 
 find-requires : tie.Need-find-requires
 find-requires c κs = search needs
 
 returns-3 : tie.Need-returns-3
-returns-3 c = λ l _ h. sym (ap headOf (text-more _ _ _ (c .before .before .before .before .before .if1 .left) (c .before .find .ensures .0) l (c .if3 .taken)))
+returns-3 c = λ l _ h. sym (ap headOf (text-more _ _ _ (c .before .before .before .before .before .if1 .left) (c .before .find .ensures .0) isText l (c .if3 .taken)))
 
 returns-4 : tie.Need-returns-4
 returns-4 c =
     let g = c .before .before .before .before .before .before .before .args in
     let f = c .before .find .ensures in
     let wrong = sym (c .before .before .before .is-text .ensures) ∙ c .before .before .if2 .left in
-    λ l _ h. sym (ap headOf (text-bad (g .s .now) (g .a) _ (c .before .before .before .before .before .if1 .left) (f .0) l _ (whole-rest (g .s .now) (g .a)) (f .1) (c .if3 .left) wrong))
+    λ l _ h. sym (ap headOf (text-bad (g .s .now) (g .a) _ (c .before .before .before .before .before .if1 .left) (f .0) isText l _ (whole-rest (g .s .now) (g .a)) (f .1) (c .if3 .left) wrong))
 
 pub judge-text-spec : {M : Type 1} → statement M
 judge-text-spec =

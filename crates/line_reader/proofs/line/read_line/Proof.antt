@@ -5,7 +5,7 @@ use lib.Seq.{length-take-le}
 use borrow.Author.Needs.{needs}
 use Rattle.causes.specs.declared.Cause.the-variants.{Byte}
 use Rattle.text.specs.Parts.{split, comma, all}
-use Rattle.text.specs.Text.{allowed}
+use Rattle.text.specs.Text.{allowedLine}
 use Rattle.lines.specs.declared.Head.the-variants.{Faulty}
 use Rattle.lines.specs.Line.{fieldsLine}
 use Rattle.lines.specs.Answers.{headOf}
@@ -39,7 +39,7 @@ returns : tie.Need-returns
 returns c = let g = c .before .before .before .before .before .before .before .before .before .args in
     let k = fields-of-kind (g .form) (g .s .now) _ _ _ (c .before .before .before .before .before .before .before .find .ensures .0) refl (c .before .before .before .before .before .kind-of .ensures) in
     c .faulty-line .ensures
-    ∙ ap (λ h. cond (all allowed (g .s .now)) h (Faulty Byte)) (sym (c .before .before .head .given .1) ∙ c .before .before .before .before .read-fields .ensures ∙ ap headOf (sym k))
+    ∙ ap (λ h. cond (allowedLine (g .s .now)) h (Faulty Byte)) (sym (c .before .before .head .given .1) ∙ c .before .before .before .before .read-fields .ensures ∙ ap headOf (sym k))
     ∙ sym (line-judged (g .form) (g .s .now))
 
 returns-2 : tie.Need-returns-2

@@ -7,7 +7,7 @@ use Rattle.fields.specs.Places.{untilETX, valuesOf}
 use Rattle.fields.proofs.Answers.{size-got, size-kept}
 use Rattle.fields.proofs.Copies.{length-characters}
 use Rattle.plate_characters.proofs.TextCopy.{got-known}
-use Rattle.plate_texts.proofs.Spelled.{sized-few, spelled-got, spelled-sized, spelled-phrase}
+use Rattle.plate_texts.proofs.Spelled.{sized-few, spelled-got, spelled-sized, spelled-not}
 use Rattle.plate_texts.proofs.spelled_text.read_spelled.Statement.{statement}
 use Rattle.plate_texts.proofs.spelled_text.read_spelled.Tie as tie
 
@@ -22,27 +22,27 @@ enum-told c = search needs
 
 returns : tie.Need-returns
 unfolding spelled
-returns c = size-kept _ _ _ _ _ (c .enum-told .given .1) untilETX (c .before .before .last-size .ensures)
+returns c = size-kept _ _ _ _ _ (c .enum-told .given .1) 7 (untilETX 7) (c .before .before .last-size .ensures)
 
 is-sized-requires : tie.Need-is-sized-requires
 is-sized-requires c κs = search needs
 
 is-no-phrase-requires : tie.Need-is-no-phrase-requires
 is-no-phrase-requires c κs =
-    let e = size-got _ _ _ (c .before .before .before .before .before .last-size .ensures) (c .before .before .before .field .given .1) in
+    let e = size-got 7 _ _ _ (c .before .before .before .before .before .last-size .ensures) (c .before .before .before .field .given .1) in
     let b = c .before .before .before .before .before .before .before .before .before .before in
-    (b .pre .0, b .pre .1, b .pre .2, got-known e, sym (length-characters _ _) ∙ ap (λ m. length (valuesOf m)) e, sized-few (b .args .plate .now) (b .args .at) _ _ (c .before .is-sized .ensures) (c .if1 .taken))
+    (b .pre .0, b .pre .1, b .pre .2, got-known e, sym (length-characters 7 _ _) ∙ ap (λ m. length (valuesOf m)) e, sized-few 7 (b .args .plate .now) (b .args .at) _ _ (c .before .is-sized .ensures) (c .if1 .taken))
 
 returns-2 : tie.Need-returns-2
 returns-2 c =
-    spelled-got _ _ _ _ (c .before .before .before .is-sized .ensures) _ _ (size-got _ _ _ (c .before .before .before .before .before .before .before .last-size .ensures) (c .before .before .before .before .before .field .given .1))
+    spelled-got 7 _ _ _ _ (c .before .before .before .is-sized .ensures) _ (size-got 7 _ _ _ (c .before .before .before .before .before .before .before .last-size .ensures) (c .before .before .before .before .before .field .given .1))
     (c .before .before .if1 .taken) (sym (c .before .is-no-phrase .ensures) ∙ c .if2 .taken)
 
 returns-3 : tie.Need-returns-3
-returns-3 c = spelled-phrase _ _ _ _ (size-got _ _ _ (c .before .before .before .before .before .before .before .last-size .ensures) (c .before .before .before .before .before .field .given .1)) (sym (c .before .is-no-phrase .ensures) ∙ c .if2 .left)
+returns-3 c = spelled-not 7 _ _ _ (size-got 7 _ _ _ (c .before .before .before .before .before .before .before .last-size .ensures) (c .before .before .before .before .before .field .given .1)) (sym (c .before .is-no-phrase .ensures) ∙ c .if2 .left)
 
 returns-4 : tie.Need-returns-4
-returns-4 c = spelled-sized _ _ _ _ (c .before .is-sized .ensures) _ _ (size-got _ _ _ (c .before .before .before .before .before .last-size .ensures) (c .before .before .before .field .given .1)) (c .if1 .left)
+returns-4 c = spelled-sized 7 _ _ _ _ (c .before .is-sized .ensures) _ (size-got 7 _ _ _ (c .before .before .before .before .before .last-size .ensures) (c .before .before .before .field .given .1)) (c .if1 .left)
 
 pub read-spelled-spec : {M : Type 1} → statement M
 read-spelled-spec =

@@ -29,12 +29,12 @@ abbrev μ-loop : tie.MeasureT-loop
 line : (c : tie.After-put-phrase Inv-loop μ-loop) →
     let l = c .before .before .before .before .before .before .before .before .before .loop in
     let a = c .before .before .before .before .before .before .before .before .before .before .before .before .before .before .args in
-    (own′ : List ℕ) → (c .put-phrase .result, own′) ≡ poured (l .end) (phraseLine (valuesOf (untilETX (placeAt (a .plate .now) (l .bit))))) (l .own)
+    (own′ : List ℕ) → (c .put-phrase .result, own′) ≡ poured (l .end) (phraseLine (valuesOf (untilETX 7 (placeAt (a .plate .now) (l .bit))))) (l .own)
     → Line own′ (l .end) (c .put-phrase .result)
 line c own′ w =
     let l = c .before .before .before .before .before .before .before .before .before .loop in
     let p = c .before .before .before .before .before .before .before .before .before .before .before .before .before .before .pre in
-    let e = size-got _ _ _ (c .before .before .before .before .before .read-spelled .ensures) (c .before .before .before .field .given .1) in
+    let e = size-got 7 _ _ _ (c .before .before .before .before .before .read-spelled .ensures) (c .before .before .before .field .given .1) in
     let text = sym (ap (λ m. poured (l .end) (phraseLine (valuesOf m)) (l .own)) (phrase-characters _ _ _ _ e)) in
     line-more (l .inv .0) (c .before .before .before .before .before .before .before .before .loop-test .taken) (p .3) (p .4) _ _ _ _ (omega arith) e (w ∙ text)
 
@@ -60,7 +60,7 @@ same-length-2 c = kept _ _ _ _ _ (c .before .before .before .before .before .bef
 
 returns : tie.Need-returns Inv-loop μ-loop
 returns c = let s = c .before .before .before .before .before .before .loop .inv in
-    let e = answered (sizeRead _ _) refusalOf (c .before .before .read-spelled .ensures) (c .enum-told .given .1) in (
+    let e = answered (sizeRead 7 _ _) refusalOf (c .before .before .read-spelled .ensures) (c .enum-told .given .1) in (
       ap (ownRead _ _) (c .enum-told .given .1) ∙ own-stopped (s .0 .read) (omega arith) (c .before .before .before .before .before .loop-test .taken) e,
       (
         none-there _ _ _ _ (c .enum-told .given .1),
@@ -72,7 +72,7 @@ add-start : tie.Need-add-start Inv-loop μ-loop
 add-start c = omega (arith, entered-end (c .before .before .before .before .before .before .before .loop .inv .0) (omega arith) (omega arith) (c .before .before .before .before .before .before .before .before .before .before .before .before .pre .2))
 
 put-phrase-requires : tie.Need-put-phrase-requires Inv-loop μ-loop
-put-phrase-requires c κs = let e = size-got _ _ _ (c .before .before .before .before .read-spelled .ensures) (c .before .before .field .given .1) in
+put-phrase-requires c κs = let e = size-got 7 _ _ _ (c .before .before .before .before .read-spelled .ensures) (c .before .before .field .given .1) in
     (search needs, got-known (phrase-characters _ _ _ _ e))
 
 sub-enter-own : tie.Need-sub-enter-own Inv-loop μ-loop
@@ -112,7 +112,7 @@ loop-again c =
     let l = c .before .before .before .before .before .before .before .before .before .before .before .before .before .before .before .before .before .loop in
     let b = c .before .before .before .before .before .before .before .before .before .before .before .before .before .before .before .before .before .before .before .before .before .before in
     let p = b .pre in
-    let e = size-got _ _ _ (c .before .before .before .before .before .before .before .before .before .before .before .before .before .read-spelled .ensures) (c .before .before .before .before .before .before .before .before .before .before .before .field .given .1) in
+    let e = size-got 7 _ _ _ (c .before .before .before .before .before .before .before .before .before .before .before .before .before .read-spelled .ensures) (c .before .before .before .before .before .before .before .before .before .before .before .field .given .1) in
     let w = c .before .before .before .before .before .before .before .before .put-phrase .ensures ∙ sym (ap (λ m. poured (l .end) (phraseLine (valuesOf m)) (l .own)) (phrase-characters _ _ _ _ e)) in (
       entered-more (l .inv .0) (c .before .before .before .before .before .before .before .before .before .before .before .before .before .before .before .before .loop-test .taken) (p .3) (p .4) _ _ _ _ (omega (arith, b .fits, b .good)) e w (p .2) _ (c .before .before .enter-own .ensures),
       search needs,

@@ -11,7 +11,7 @@ use Rattle.text_bits.proofs.texts.put_rest.Statement.{statement}
 use Rattle.text_bits.proofs.texts.put_rest.Tie as tie
 
 abbrev Inv-loop : tie.InvT-loop
-Inv-loop out at prefix front text from value₀ width₀ i₀ value width i = Gathered (bitsOf prefix front ++ spelledBits (drop from text)) text i width value × (i ≤ length text)
+Inv-loop out at prefix front text from value₀ width₀ i₀ value width i = Gathered (bitsOf prefix front ++ spelledBits 7 (drop from text)) text i width value × (i ≤ length text)
 
 abbrev μ-loop : tie.MeasureT-loop
 μ-loop out at prefix front text from value₀ width₀ i₀ value width i = length text - i

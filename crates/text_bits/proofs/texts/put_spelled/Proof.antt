@@ -10,7 +10,7 @@ use Rattle.text_bits.proofs.texts.put_spelled.Statement.{statement}
 use Rattle.text_bits.proofs.texts.put_spelled.Tie as tie
 
 abbrev Inv-loop : tie.InvT-loop
-Inv-loop out₀ at text end₀ i₀ out end i = Left at (spelledBits text) out₀ end (spelledBits (drop i text)) out × (i ≤ length text)
+Inv-loop out₀ at text end₀ i₀ out end i = Left at (spelledBits 7 text) out₀ end (spelledBits 7 (drop i text)) out × (i ≤ length text)
 
 abbrev μ-loop : tie.MeasureT-loop
 μ-loop out₀ at text end₀ i₀ out end i = length text - i

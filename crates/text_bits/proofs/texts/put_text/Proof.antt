@@ -91,7 +91,7 @@ returns-3 c =
     let n = c .before .before .before .before in
     let f = n .before .before in
     let found = found-is _ _ (sym (f .find-phrase .ensures) ∙ n .enum-told .given .1) in
-    rw (found, ← append-assoc) (c .before .before .put-new .ensures)
+    rw found (c .before .before .put-new .ensures)
 
 pub put-text-spec : {M : Type 1} → statement M
 put-text-spec =

@@ -9,7 +9,7 @@ use borrow.Author.Tests.{not-true, not-false}
 use Rattle.text.specs.Parts.{all}
 use Rattle.text.specs.Text.{textByte}
 use Rattle.text.proofs.Flags.{Flag, flag-start, flag-on, flag-off, flag-end}
-use Rattle.text_bytes.proofs.Windows.{window-none, window-not, window-on}
+use Rattle.text.proofs.Windows.{window-none, window-not, window-on}
 use Rattle.text_bytes.proofs.texts.are_sixteen.Statement.{statement}
 use Rattle.text_bytes.proofs.texts.are_sixteen.Tie as tie
 

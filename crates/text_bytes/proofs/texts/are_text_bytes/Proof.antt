@@ -7,7 +7,7 @@ use borrow.Author.Tests.{not-true, not-false}
 use Rattle.text.specs.Parts.{all}
 use Rattle.text.specs.Text.{textByte}
 use Rattle.text.proofs.Places.{all-passed, all-failed}
-use Rattle.text_bytes.proofs.Windows.{last-window}
+use Rattle.text.proofs.Windows.{last-window}
 use Rattle.text_bytes.proofs.texts.are_text_bytes.Statement.{statement}
 use Rattle.text_bytes.proofs.texts.are_text_bytes.Tie as tie
 

@@ -1,5 +1,5 @@
 /* doorplate: door-plate guides for C. The five calls of the paper "Door-plate guides: text, plate and run" (document 01),
- * with the requests d, h and l of document 02, "Later changes to the base".
+ * with the requests d, f, h and l of document 02, "Later changes to the base".
  *
  * Every call is proved, for every content and length of its inputs and every lent buffer, to answer and to leave in the buffer exactly
  * what its definition says (docs/DEFINITIONS.md, "The C library"). No call has a precondition of its own. What C has to see to:
@@ -51,7 +51,8 @@ typedef struct {
 
 /* Of every call: a refusal is the first cause in document 01's order, and leaves the buffer as it was. A buffer shorter than the result
  * is 11 with place 0, and is left as it was. Bytes behind the result stay as they were. book is the phrase book: up to 256 different texts,
- * each ended by LF; it may be empty. */
+ * each ended by LF; it may be empty. A text, in the book, in a guide or listing and on a plate, is 1 to 64 bytes of well-formed UTF-8
+ * (RFC 3629) with no byte below 32, no 127 and no comma; an own phrase of a listing or plate is of ASCII alone. */
 
 /* The plate of a guide. Refusals: 1 to 7, 9, 10, 11; a phrase line is 6. */
 doorplate_written doorplate_translate(const uint8_t *guide, size_t guide_length, const uint8_t *book, size_t book_length,

@@ -1,5 +1,5 @@
 /* doorplate: door-plate guides for C. The five calls of the paper "Door-plate guides: text, plate and run" (document 01),
- * with the requests d, f, h and l of document 02, "Later changes to the base".
+ * with the requests c, d, f, h and l of document 02, "Later changes to the base".
  *
  * Every call is proved, for every content and length of its inputs and every lent buffer, to answer and to leave in the buffer exactly
  * what its definition says (docs/DEFINITIONS.md, "The C library"). No call has a precondition of its own. What C has to see to:
@@ -20,13 +20,14 @@ extern "C" {
 /* Lengths that always do (documents 01 and 02). */
 #define DOORPLATE_PLATE_BYTES 2953      /* no accepted plate is longer */
 #define DOORPLATE_LISTING_BYTES 327680  /* no accepted plate has a longer listing */
+#define DOORPLATE_TRANSCRIPT_BYTES 918016 /* no accepted guide or plate has a longer transcript */
 #define DOORPLATE_SCRATCH_NUMBERS 64    /* what doorplate_run asks for */
 
 /* Outcomes of a walk or a run. */
 #define DOORPLATE_VERDICT 0   /* a verdict was shown */
 #define DOORPLATE_END 1       /* the end, without a verdict */
 #define DOORPLATE_WAITING 2   /* a question is asked and no answer is left */
-#define DOORPLATE_OUTSIDE 3   /* an inputs answer outside its options, which is not taken */
+#define DOORPLATE_OUTSIDE 3   /* the third answer outside the options of one inputs question, which is not taken */
 
 /* What translate, write_plate and read_plate answer.
  * number 0: accepted; place is 0, and length is the length of the result, which stands at the front of the buffer.
@@ -38,8 +39,9 @@ typedef struct {
 } doorplate_written;
 
 /* What walk and run answer.
- * number 0: accepted; place is 0, length is the transcript's length, outcome one of the four above, taken the number of answers taken
- * and steps the number of steps. Otherwise: number and place are the refusal, and every other field is 0. */
+ * number 0: accepted; place is 0, length is the transcript's length, outcome one of the four above, taken the number of answers taken,
+ * steps the number of steps, and wrong the number of wrong answers to the present inputs question: 3 with outcome 3, 0 to 2 while waiting, and 0
+ * after a verdict or the end. Otherwise: number and place are the refusal, and every other field is 0. */
 typedef struct {
     uint32_t number;
     uint64_t place;
@@ -47,6 +49,7 @@ typedef struct {
     uint32_t outcome;
     uint64_t taken;
     uint64_t steps;
+    uint32_t wrong;
 } doorplate_ran;
 
 /* Of every call: a refusal is the first cause in document 01's order, and leaves the buffer as it was. A buffer shorter than the result

@@ -29,6 +29,7 @@ others() {
     shown incident.guide -
     shown breaker-open.guide relay.book 0 5 6
     shown breaker-open.guide - 2
+    shown breaker-open.guide - 2 -1 9
     shown ct-open.guide relay.book 0 -2147483648 2147483647 0
     shown c/open-if.guide - 90
     shown incident.guide c/repeated.book 90

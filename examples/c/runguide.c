@@ -69,22 +69,17 @@ static int refused(uint32_t number, uint64_t place)
     return 0;
 }
 
-/* Runs a plate, with a transcript buffer that grows until it is long enough. */
+/* Runs a plate, with a transcript buffer that is long enough for any. */
 static int run(const uint8_t *plate, size_t length, struct bytes book, const int32_t *answers, size_t count)
 {
     static uint16_t scratch[DOORPLATE_SCRATCH_NUMBERS];
-    uint8_t *transcript = NULL;
-    size_t size = 1024;
-    doorplate_ran ran;
-    do {
-        size *= 2;
-        transcript = room(transcript, size);
-        ran = doorplate_run(plate, length, book.at, book.length, answers, count, scratch, DOORPLATE_SCRATCH_NUMBERS, transcript, size);
-    } while (ran.number == 11);
+    uint8_t *transcript = room(NULL, DOORPLATE_TRANSCRIPT_BYTES);
+    doorplate_ran ran = doorplate_run(plate, length, book.at, book.length, answers, count, scratch, DOORPLATE_SCRATCH_NUMBERS,
+                                      transcript, DOORPLATE_TRANSCRIPT_BYTES);
     if (ran.number != 0)
         return refused(ran.number, ran.place);
     fwrite(transcript, 1, (size_t)ran.length, stdout);
-    printf("outcome,%" PRIu32 ",taken,%" PRIu64 ",steps,%" PRIu64 "\n", ran.outcome, ran.taken, ran.steps);
+    printf("outcome,%" PRIu32 ",taken,%" PRIu64 ",steps,%" PRIu64 ",wrong,%" PRIu32 "\n", ran.outcome, ran.taken, ran.steps, ran.wrong);
     free(transcript);
     return 0;
 }

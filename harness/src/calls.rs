@@ -1,6 +1,6 @@
 //! The five calls, as the library and the model both offer them.
 
-/// What a call answers. The last three are 0 where the call has no such field.
+/// What a call answers. The last four are 0 where the call has no such field.
 #[derive(Clone, Copy, Debug, Default, PartialEq, Eq)]
 pub struct Answer {
     pub number: u32,
@@ -9,6 +9,7 @@ pub struct Answer {
     pub outcome: u32,
     pub taken: u64,
     pub steps: u64,
+    pub wrong: u32,
 }
 
 impl Answer {

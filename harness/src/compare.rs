@@ -21,6 +21,7 @@ pub fn differences(expected: &Seen, found: &Seen) -> Vec<Difference> {
         ("outcome", u64::from(e.outcome), u64::from(f.outcome)),
         ("taken", e.taken, f.taken),
         ("steps", e.steps, f.steps),
+        ("wrong", u64::from(e.wrong), u64::from(f.wrong)),
     ];
     let mut differences = Vec::new();
     for (what, expected, found) in fields {

@@ -21,6 +21,7 @@ struct Ran {
     outcome: u32,
     taken: u64,
     steps: u64,
+    wrong: u32,
 }
 
 extern "C" {
@@ -163,5 +164,6 @@ fn of_ran(ran: &Ran) -> Answer {
         outcome: ran.outcome,
         taken: ran.taken,
         steps: ran.steps,
+        wrong: ran.wrong,
     }
 }

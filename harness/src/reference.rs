@@ -53,6 +53,7 @@ fn of_ran(ran: Result<calls::Ran, Refusal>) -> Answer {
             outcome: ran.outcome,
             taken: ran.taken as u64,
             steps: ran.steps as u64,
+            wrong: ran.wrong,
         },
         Err(refusal) => of_refusal(refusal),
     }

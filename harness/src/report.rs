@@ -1,6 +1,7 @@
 //! What a run of many cases has met.
 
 use crate::calls::Answer;
+use model::machine::Outcome;
 use model::vectors::Call;
 use std::fmt::{self, Display, Formatter};
 
@@ -13,6 +14,8 @@ pub struct Report {
     counts: [[u64; 5]; NUMBERS],
     /// Accepted walks and runs by outcome.
     outcomes: [u64; 4],
+    /// Those that wait, by the wrong answers to their question.
+    waits: [u64; 3],
     /// Walks that were compared with the run of the translator's plate.
     pub agreements: u64,
     /// Cases with a difference.
@@ -35,6 +38,11 @@ impl Report {
             if let Some(count) = self.outcomes.get_mut(answer.outcome as usize) {
                 *count += 1;
             }
+            if answer.outcome == Outcome::Waiting as u32 {
+                if let Some(count) = self.waits.get_mut(answer.wrong as usize) {
+                    *count += 1;
+                }
+            }
         }
     }
 
@@ -52,6 +60,7 @@ impl Report {
             row.iter_mut().zip(more).for_each(|(count, more)| *count += more);
         }
         self.outcomes.iter_mut().zip(other.outcomes).for_each(|(count, more)| *count += more);
+        self.waits.iter_mut().zip(other.waits).for_each(|(count, more)| *count += more);
         self.agreements += other.agreements;
         let differing = self.differing + other.differing;
         if let Some((number, text)) = other.first {
@@ -63,6 +72,11 @@ impl Report {
     /// How often a call gave a number.
     pub fn count(&self, call: Call, number: u32) -> u64 {
         self.counts[number as usize][column(call)]
+    }
+
+    /// How many walks and runs waited after so many wrong answers to their question.
+    pub fn waits(&self, wrong: usize) -> u64 {
+        self.waits[wrong]
     }
 
     pub fn cases(&self, call: Call) -> u64 {
@@ -91,6 +105,8 @@ impl Display for Report {
         }
         let [verdict, end, waiting, outside] = self.outcomes;
         write!(out, "\noutcomes of walk and run: 0 {verdict}, 1 {end}, 2 {waiting}, 3 {outside}")?;
+        let [none, once, twice] = self.waits;
+        write!(out, "\nwrong answers where they wait: 0 {none}, 1 {once}, 2 {twice}")?;
         write!(
             out,
             "\nruns of the translator's plate compared with the walk: {}",

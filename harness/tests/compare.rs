@@ -49,6 +49,7 @@ fn every_field_counts() {
     assert_eq!(after(|seen| seen.answer.outcome = 0), ["outcome"]);
     assert_eq!(after(|seen| seen.answer.taken = 0), ["taken"]);
     assert_eq!(after(|seen| seen.answer.steps = 1 << 40), ["steps"]);
+    assert_eq!(after(|seen| seen.answer.wrong = 1), ["wrong"]);
     let two = after(|seen| (seen.answer.number, seen.answer.place) = (11, 1));
     assert_eq!(two, ["number", "place"]);
 }

@@ -11,7 +11,8 @@ use model::refusal::cause::OWN_PHRASE;
 use model::vectors::Call;
 use std::collections::BTreeMap;
 
-/// Every cause of every call, all outcomes, and acceptance; no difference from the model.
+/// Every cause of every call, all outcomes, waits after 0, 1 and 2 wrong answers, and acceptance; no difference from the
+/// model.
 #[test]
 fn every_cause_is_reached() {
     let report = all(&Library, 11, 40_000, 1);
@@ -22,6 +23,7 @@ fn every_cause_is_reached() {
             assert!(report.count(call, number) > 0, "{} cause {number}", call.name());
         }
     }
+    assert!((0..=2).all(|wrong| report.waits(wrong) > 50));
     assert!(report.agreements > 2_000);
 }
 

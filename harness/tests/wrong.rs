@@ -25,6 +25,10 @@ enum Fault {
     Taken,
     /// One step more was made.
     Steps,
+    /// A wait says that no answer was wrong.
+    Wrong,
+    /// The third wrong answer was taken.
+    ThirdTaken,
     /// The byte behind the result is 0.
     Tail,
     /// The first byte is changed although the call refuses.
@@ -50,6 +54,8 @@ impl Wrong {
             Fault::Outcome if answer.outcome == 3 => answer.outcome = 2,
             Fault::Taken if accepted => answer.taken += 1,
             Fault::Steps if accepted => answer.steps += 1,
+            Fault::Wrong if answer.outcome == 2 => answer.wrong = 0,
+            Fault::ThirdTaken if answer.outcome == 3 => answer.taken += 1,
             Fault::Tail if accepted && length < output.len() => output[length] = 0,
             Fault::Refused if !accepted && !output.is_empty() => output[0] ^= 1,
             Fault::LastByte if accepted && length > 0 => output[length - 1] ^= 1,
@@ -92,7 +98,7 @@ impl Calls for Wrong {
     }
 }
 
-const FAULTS: [Fault; 12] = [
+const FAULTS: [Fault; 14] = [
     Fault::Place,
     Fault::Number,
     Fault::LengthOfRefusal,
@@ -101,6 +107,8 @@ const FAULTS: [Fault; 12] = [
     Fault::Outcome,
     Fault::Taken,
     Fault::Steps,
+    Fault::Wrong,
+    Fault::ThirdTaken,
     Fault::Tail,
     Fault::Refused,
     Fault::LastByte,
@@ -127,7 +135,9 @@ fn no_fault_is_found_where_there_is_none() {
 /// Walk and translate are right, and the run of the plate is not the walk.
 #[test]
 fn disagreement_is_found() {
-    for fault in [Fault::Taken, Fault::Steps, Fault::Tail, Fault::LastByte, Fault::Scratch] {
+    let faults =
+        [Fault::Taken, Fault::Steps, Fault::Wrong, Fault::Tail, Fault::LastByte, Fault::Scratch];
+    for fault in faults {
         let walks = (0..3_000).map(|number| generate::case(6, number));
         let mut found = 0;
         for case in walks.filter(|case| case.call == Call::Walk) {

@@ -12,6 +12,7 @@ pub struct Ran {
     pub outcome: u32,
     pub taken: usize,
     pub steps: usize,
+    pub wrong: u32,
 }
 
 pub fn translate(guide: &[u8], book: &[u8], out: &mut [u8]) -> Result<usize, Refusal> {
@@ -59,5 +60,6 @@ fn hand_over_record(record: &Record, out: &mut [u8]) -> Result<Ran, Refusal> {
         outcome: record.outcome as u32,
         taken: record.taken,
         steps: record.steps,
+        wrong: record.wrong,
     })
 }

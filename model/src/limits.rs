@@ -20,5 +20,7 @@ pub const REGISTERS: usize = 32;
 /// Options of an inputs question.
 pub const MIN_OPTIONS: usize = 2;
 pub const MAX_OPTIONS: usize = 8;
+/// Answers outside its options that end an inputs question.
+pub const TRIES: u32 = 3;
 /// 16-bit numbers lent to a run.
 pub const SCRATCH: usize = 64;

@@ -1,7 +1,7 @@
 //! The state that the walk and the run share: registers, answers, transcript.
 
 use crate::action::{Action, Test};
-use crate::limits::REGISTERS;
+use crate::limits::{REGISTERS, TRIES};
 use crate::number;
 use crate::text::LF;
 
@@ -12,7 +12,7 @@ pub enum Outcome {
     End = 1,
     /// No answer left.
     Waiting = 2,
-    /// An answer outside the options.
+    /// The third answer outside the options of one question.
     OutsideOptions = 3,
 }
 
@@ -23,6 +23,9 @@ pub struct Record {
     pub outcome: Outcome,
     pub taken: usize,
     pub steps: usize,
+    /// The wrong answers so far in the question that it waits at or ended at; 0 after
+    /// a verdict and at the end.
+    pub wrong: u32,
 }
 
 pub struct Machine<'a> {
@@ -30,16 +33,20 @@ pub struct Machine<'a> {
     answers: &'a [i32],
     taken: usize,
     pub steps: usize,
+    /// Answers outside the options in the present question; 0 outside of one.
+    wrong: u32,
     transcript: Vec<u8>,
 }
 
 impl<'a> Machine<'a> {
     pub fn new(answers: &'a [i32]) -> Self {
-        Machine { registers: [0; REGISTERS], answers, taken: 0, steps: 0, transcript: Vec::new() }
+        let (registers, transcript) = ([0; REGISTERS], Vec::new());
+        Machine { registers, answers, taken: 0, steps: 0, wrong: 0, transcript }
     }
 
     pub fn finish(self, outcome: Outcome) -> Record {
-        Record { transcript: self.transcript, outcome, taken: self.taken, steps: self.steps }
+        let Machine { taken, steps, wrong, transcript, .. } = self;
+        Record { transcript, outcome, taken, steps, wrong }
     }
 
     pub fn holds(&self, test: &Test) -> bool {
@@ -47,19 +54,20 @@ impl<'a> Machine<'a> {
         test.op.holds(value, test.constant)
     }
 
-    /// Does an action, and says how all ends if it ends here.
+    /// Does an action, and says how all ends if it ends here. Its first step is
+    /// counted by the caller.
     pub fn act(&mut self, action: &Action) -> Option<Outcome> {
         match action {
             Action::Input { register, text } => {
                 self.line(b'Q', text, &[]);
-                self.take_answer(*register, |_| true)
+                let Some(answer) = self.next_answer() else {
+                    return Some(Outcome::Waiting);
+                };
+                self.take(answer);
+                self.registers[usize::from(*register)] = answer;
+                None
             }
-            Action::Inputs { register, text, options } => {
-                self.line(b'C', text, options);
-                self.take_answer(*register, |answer| {
-                    usize::try_from(answer).is_ok_and(|place| place < options.len())
-                })
-            }
+            Action::Inputs { register, text, options } => self.choose(*register, text, options),
             Action::Print { text } => {
                 self.line(b'S', text, &[]);
                 None
@@ -71,20 +79,39 @@ impl<'a> Machine<'a> {
         }
     }
 
-    /// Takes the next answer into a register, if there is one and it fits.
-    fn take_answer(&mut self, register: u8, fits: impl Fn(i32) -> bool) -> Option<Outcome> {
-        let Some(&answer) = self.answers.get(self.taken) else {
-            return Some(Outcome::Waiting);
-        };
-        if !fits(answer) {
-            return Some(Outcome::OutsideOptions);
+    /// Asks for an option. A wrong answer is taken and the question comes again, which
+    /// is a step more; the third wrong one is not taken.
+    fn choose(&mut self, register: u8, text: &[u8], options: &[&[u8]]) -> Option<Outcome> {
+        loop {
+            self.line(b'C', text, options);
+            let Some(answer) = self.next_answer() else {
+                return Some(Outcome::Waiting);
+            };
+            if usize::try_from(answer).is_ok_and(|place| place < options.len()) {
+                self.take(answer);
+                self.registers[usize::from(register)] = answer;
+                self.wrong = 0;
+                return None;
+            }
+            self.wrong += 1;
+            if self.wrong == TRIES {
+                return Some(Outcome::OutsideOptions);
+            }
+            self.take(answer);
+            self.steps += 1;
         }
+    }
+
+    fn next_answer(&self) -> Option<i32> {
+        self.answers.get(self.taken).copied()
+    }
+
+    /// Takes an answer from the list, and writes its line.
+    fn take(&mut self, answer: i32) {
         self.taken += 1;
-        self.registers[usize::from(register)] = answer;
         self.transcript.extend_from_slice(b"A,");
         number::write(&mut self.transcript, answer);
         self.transcript.push(LF);
-        None
     }
 
     fn line(&mut self, letter: u8, text: &[u8], options: &[&[u8]]) {

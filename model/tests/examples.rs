@@ -21,7 +21,7 @@ fn record(guide: &str, answers: &[i32]) -> Record {
 }
 
 fn of(transcript: &str, outcome: Outcome, taken: usize, steps: usize) -> Record {
-    Record { transcript: transcript.as_bytes().to_vec(), outcome, taken, steps }
+    Record { transcript: transcript.as_bytes().to_vec(), outcome, taken, steps, wrong: 0 }
 }
 
 fn refused<T>(number: u32, place: usize) -> Result<T, Refusal> {

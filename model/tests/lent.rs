@@ -53,7 +53,7 @@ fn listing_read() {
 
 #[test]
 fn transcripts() {
-    let ran = Ran { length: 5, outcome: 0, taken: 0, steps: 1 };
+    let ran = Ran { length: 5, outcome: 0, taken: 0, steps: 1, wrong: 0 };
     for length in 0..8 {
         let mut walked_out = pattern(length);
         let walked = walk(b"printex,OK\n", b"", &[], &mut walked_out);
@@ -81,7 +81,7 @@ fn half_written_transcript() {
         assert_eq!(out, pattern(length));
     }
     let mut out = pattern(transcript.len());
-    let ran = Ran { length: 16, outcome: 1, taken: 1, steps: 3 };
+    let ran = Ran { length: 16, outcome: 1, taken: 1, steps: 3, wrong: 0 };
     assert_eq!(walk(guide, b"", &[7], &mut out), Ok(ran));
     assert_eq!(out, transcript);
 }
@@ -110,7 +110,7 @@ fn scratch_of_63_and_64() {
 /// An empty result needs no room.
 #[test]
 fn empty_results() {
-    let ran = Ran { length: 0, outcome: 1, taken: 0, steps: 0 };
+    let ran = Ran { length: 0, outcome: 1, taken: 0, steps: 0, wrong: 0 };
     assert_eq!(read_plate(&[0, 0], b"", &mut []), Ok(0));
     assert_eq!(walk(b"", b"", &[], &mut []), Ok(ran));
     assert_eq!(run(&[0, 0], b"", &[], &mut [0; SCRATCH], &mut []), Ok(ran));

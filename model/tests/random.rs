@@ -52,24 +52,19 @@ fn walk_is_translate_and_run() {
     counts.assert_reached(20, &GUIDE_FEATURES);
 }
 
-/// Steps are at most the instructions; a run waits only without answers left,
-/// and more answers then only lengthen its transcript.
+/// Steps are at most the instructions and two for each inputs; a run waits only without
+/// answers left; wrong answers are 3 with outcome 3, at most 2 in a wait, else 0.
 fn check_record(plate: &[u8], book: &[u8], answers: &[i32], record: &Record) {
     let listing = model::read_plate(plate, book).expect("a plate of the translator");
     let lines = listing.split(|&byte| byte == b'\n').filter(|line| !line.is_empty());
-    let instructions = lines.filter(|line| !line.starts_with(b"phrase,")).count();
-    assert!(record.steps <= instructions);
+    let lines: Vec<_> = lines.filter(|line| !line.starts_with(b"phrase,")).collect();
+    let inputs = lines.iter().filter(|line| line.starts_with(b"inputs,")).count();
+    assert!(record.steps <= lines.len() + 2 * inputs);
     assert_eq!(model::write_plate(&listing, book).as_deref(), Ok(plate));
-    if record.outcome == Outcome::Waiting {
-        assert_eq!(record.taken, answers.len());
-    }
-    let fewer = &answers[..answers.len() / 2];
-    let start = model::run(plate, book, fewer).expect("an accepted plate");
-    if start.outcome == Outcome::Waiting {
-        assert!(record.transcript.starts_with(&start.transcript));
-        assert!(record.steps >= start.steps);
-    } else {
-        assert_eq!(start, *record);
+    match record.outcome {
+        Outcome::Waiting => assert!(record.taken == answers.len() && record.wrong <= 2),
+        Outcome::OutsideOptions => assert!(record.taken < answers.len() && record.wrong == 3),
+        Outcome::Verdict | Outcome::End => assert_eq!(record.wrong, 0),
     }
 }
 
@@ -99,11 +94,15 @@ fn check_rooms(
     assert_eq!((run, &run_out), (expected, &expected_out));
 }
 
-const GUIDE_FEATURES: [&str; 21] = [
+const GUIDE_FEATURES: [&str; 25] = [
     "outcome Verdict",
     "outcome End",
     "outcome Waiting",
     "outcome OutsideOptions",
+    "waiting after 0 wrong answers",
+    "waiting after 1 wrong answers",
+    "waiting after 2 wrong answers",
+    "a right answer after a wrong one",
     "16 levels",
     "512 instructions",
     "256 phrases in the book",
@@ -123,9 +122,24 @@ const GUIDE_FEATURES: [&str; 21] = [
     "letters in the book",
 ];
 
+/// Counts how a walk or run ended.
+fn count_record(counts: &mut Counts, record: &Record) {
+    counts.add(&format!("outcome {:?}", record.outcome));
+    if record.outcome == Outcome::Waiting {
+        counts.add(&format!("waiting after {} wrong answers", record.wrong));
+    }
+    // A question that is asked again, answered, and followed by another line.
+    let lines: Vec<&[u8]> = record.transcript.split(|&byte| byte == b'\n').collect();
+    let answered = |four: &&[&[u8]]| {
+        four[0].starts_with(b"C,") && four[2] == four[0] && four[3].starts_with(b"A,")
+    };
+    let right = lines.windows(5).filter(|five| answered(&&five[..4]) && five[4] != five[0]);
+    counts.add_if(right.count() > 0, "a right answer after a wrong one");
+}
+
 /// Counts what an accepted guide has.
 fn count_guide(counts: &mut Counts, guide: &[u8], book: &[u8], record: &Record) {
-    counts.add(&format!("outcome {:?}", record.outcome));
+    count_record(counts, record);
     let mut level = 0;
     let [mut highest, mut instructions] = [0; 2];
     for line in guide.split(|&byte| byte == b'\n').filter(|line| !line.is_empty()) {

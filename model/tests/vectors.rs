@@ -97,7 +97,7 @@ fn lines_of_answers() {
     };
     let guide = vector(7, b"printex,OK\n");
     assert_eq!(guide.answer(Call::Translate), "Y,5,002C9F2C183037\n");
-    assert_eq!(guide.answer(Call::Walk), "Y,5,0,0,1,562C4F4B0A3037\n");
+    assert_eq!(guide.answer(Call::Walk), "Y,5,0,0,1,0,562C4F4B0A3037\n");
     assert_eq!(vector(4, b"printex,OK\n").answer(Call::WritePlate), "N,11,0,0D141B22\n");
     assert_eq!(vector(0, b"print\n").answer(Call::WritePlate), "N,4,1,\n");
     let refused = vector(65, b"\x80").answer(Call::Run);
@@ -116,7 +116,7 @@ fn sizes() {
             assert!(vector.lent <= 327_680);
             assert!(vector.input.len() <= 327_681);
             assert!(vector.book.len() <= 20_000);
-            assert!(vector.answers.len() <= 512);
+            assert!(vector.answers.len() <= 1_536);
             assert!(vector.scratch <= 600);
         }
     }

@@ -63,6 +63,6 @@ pub agree : (b : Block) (s : State) → run (translateBlock b) 0 s ≡ walk b s
 unfolding run
 agree b s = rw append-nil at (agree-at b [] s) ∙ then-nothing (walk b s)
 
--- transcript, outcome, answers taken and steps
+-- transcript, outcome, answers taken, steps and wrong answers
 pub agree-report : (b : Block) (answers : List ℤ) → report (run (translateBlock b) 0 (start answers)) ≡ report (walk b (start answers))
 agree-report b answers = ap report (agree b (start answers))

@@ -18,10 +18,13 @@ use Rattle.plate.specs.Writing.{plateBytes, plateSized}
 use Rattle.plate.specs.Plate.{plateProgram}
 use Rattle.plate.proofs.RoundTrip.{written-read}
 use Rattle.plate.proofs.Sized.{sized-made}
+use Rattle.transcript.proofs.Few.{Few}
 use Rattle.walking.specs.Call.{walked, walkCall}
 use Rattle.walking.proofs.Waits.{walk-waits}
 use Rattle.running.specs.Call.{scratchNumbers, ran, runCall}
+use Rattle.running.specs.Steps.{mostStepsOf}
 use Rattle.running.proofs.Steps.{run-steps}
+use Rattle.running.proofs.Few.{run-few}
 use Rattle.translating.specs.Translation.{translateBlock, translateGuide}
 use Rattle.translating.specs.Call.{translation}
 use Rattle.agreement.specs.Agreement.{theWalk, theTranscript, Agreement}
@@ -46,9 +49,12 @@ module _ (book guide plate : List ℕ) (phrases : List Text) (g : Block) (b : bo
     unfolding runCall ran translateGuide
     run-lent = rw (b, holds, le-leb scratchNumbers scratch enough, agree-report g answers)
 
-    steps-few : stateOf (theWalk g answers) .steps ≤ length (translateGuide g .instructions)
+    steps-few : stateOf (theWalk g answers) .steps ≤ mostStepsOf (translateGuide g .instructions)
     unfolding translateGuide
     steps-few = rw (agree g (start answers)) at (run-steps (translateBlock g) answers)
+
+    wrong-few : Few (theWalk g answers)
+    wrong-few = rw (agree g (start answers)) at (run-few (translateBlock g) 0 (start answers))
 
     agreement : Agreement book guide plate answers scratch buffer
     unfolding report
@@ -65,6 +71,7 @@ module _ (book guide plate : List ℕ) (phrases : List Text) (g : Block) (b : bo
           otherwise = λ h. run-lent ∙ rw (le-leb (length (theTranscript g answers)) (length buffer) h);
           steps = steps-few;
           waits = walk-waits g answers;
+          few = wrong-few;
         }
 
 pub demand-3 : (book guide plate : List ℕ) → translation book guide ≡ made plate → (answers : List ℤ) (scratch : ℕ) (buffer : List ℕ)

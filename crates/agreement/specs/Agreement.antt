@@ -6,8 +6,7 @@ use mathlib.Core.Logic.{_↔_}
 use lib.ListN.{length, drop}
 use lib.IntN.{ℤ}
 use Rattle.causes.specs.Answers.{made, ended, refusal}
-use Rattle.causes.specs.Causes.{outcomeNumber}
-use Rattle.causes.specs.declared.Outcome.the-variants.{Waiting}
+use Rattle.causes.specs.Causes.{outcomeNumber, wrongAnswers}
 use Rattle.text.specs.Text.{Text}
 use Rattle.phrases.specs.Book.{bookPhrases}
 use Rattle.transcript.specs.State.{start, transcriptBytes}
@@ -19,6 +18,7 @@ use Rattle.plate.specs.Program.{Program}
 use Rattle.plate.specs.Plate.{plateProgram}
 use Rattle.walking.specs.Walk.{walk}
 use Rattle.walking.specs.Call.{walkCall}
+use Rattle.running.specs.Steps.{mostStepsOf}
 use Rattle.running.specs.Call.{runCall}
 
 -- the walk of a guide on a list of answers
@@ -51,10 +51,13 @@ pub record Agreement (book guide plate : List ℕ) (answers : List ℤ) (scratch
             (length (theTranscript g answers))
             (outcomeNumber (outcomeOf (theWalk g answers)))
             (stateOf (theWalk g answers) .taken)
-            (stateOf (theWalk g answers) .steps),
+            (stateOf (theWalk g answers) .steps)
+            (wrongAnswers (outcomeOf (theWalk g answers))),
         theTranscript g answers ++ drop (length (theTranscript g answers)) buffer,
       )
-  -- "The steps are at most the instructions on P."
-  pub steps : stateOf (theWalk g answers) .steps ≤ length (p .instructions)
+  -- "the steps are now at most the instructions plus two for each inputs"
+  pub steps : stateOf (theWalk g answers) .steps ≤ mostStepsOf (p .instructions)
   -- "it waits exactly when the walk writes a question's line and finds no answer left for it"
-  pub waits : (outcomeOf (theWalk g answers) ≡ Waiting) ↔ Unanswered (stateOf (theWalk g answers))
+  pub waits : (outcomeNumber (outcomeOf (theWalk g answers)) ≡ 2) ↔ Unanswered (stateOf (theWalk g answers))
+  -- and then there were at most two wrong answers to the present question
+  pub few : outcomeNumber (outcomeOf (theWalk g answers)) ≡ 2 → wrongAnswers (outcomeOf (theWalk g answers)) ≤ 2

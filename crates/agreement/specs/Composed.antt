@@ -15,7 +15,7 @@ use Rattle.translating.specs.Call.{translateCall}
 abbrev pub asWalked : Answer → List ℕ → List ℕ → List ℤ → ℕ → List ℕ → Answer × List ℕ
 asWalked (wrote n) guide book answers scratch transcript =
     cond (leb scratchNumbers scratch) (walkCall guide book answers transcript) (refusing TooShort 0, transcript)
-asWalked (ended n outcome taken steps) guide book answers scratch transcript = walkCall guide book answers transcript
+asWalked (ended n outcome taken steps wrong) guide book answers scratch transcript = walkCall guide book answers transcript
 asWalked (refusal number place) guide book answers scratch transcript = (refusal number place, transcript)
 
 -- a guide, translated into the plate buffer, and the bytes written run on the answers

@@ -15,13 +15,13 @@ use Rattle.cases.specs.Agree.{numbers, sameReturned, agrees, allAgree}
 -- an answer's numbers tell it
 answer-same : (a b : Answer) → numbers a ≡ numbers b → a ≡ b
 answer-same (wrote n) (wrote m) e = cc
-answer-same (wrote n) (ended m o t k) e = let z : _≡_ {A = ℕ} 0 1 = cc in absurd (omega arith)
+answer-same (wrote n) (ended m o t k w) e = let z : _≡_ {A = ℕ} 0 1 = cc in absurd (omega arith)
 answer-same (wrote n) (refusal m p) e = let z : _≡_ {A = ℕ} 0 2 = cc in absurd (omega arith)
-answer-same (ended n o t k) (wrote m) e = let z : _≡_ {A = ℕ} 1 0 = cc in absurd (omega arith)
-answer-same (ended n o t k) (ended m o′ t′ k′) e = cc
-answer-same (ended n o t k) (refusal m p) e = let z : _≡_ {A = ℕ} 1 2 = cc in absurd (omega arith)
+answer-same (ended n o t k w) (wrote m) e = let z : _≡_ {A = ℕ} 1 0 = cc in absurd (omega arith)
+answer-same (ended n o t k w) (ended m o′ t′ k′ w′) e = cc
+answer-same (ended n o t k w) (refusal m p) e = let z : _≡_ {A = ℕ} 1 2 = cc in absurd (omega arith)
 answer-same (refusal n p) (wrote m) e = let z : _≡_ {A = ℕ} 2 0 = cc in absurd (omega arith)
-answer-same (refusal n p) (ended m o t k) e = let z : _≡_ {A = ℕ} 2 1 = cc in absurd (omega arith)
+answer-same (refusal n p) (ended m o t k w) e = let z : _≡_ {A = ℕ} 2 1 = cc in absurd (omega arith)
 answer-same (refusal n p) (refusal m q) e = cc
 
 returned-same : (a b : Answer × List ℕ) → sameReturned a b ≡ true → returned a ≡ returned b

@@ -10,7 +10,7 @@ use Rattle.cases.specs.Row.{Row, _gives_, _counts_, _prints_}
 -- the numbers of an answer, the first telling its kind
 abbrev pub numbers : Answer → List ℕ
 numbers (wrote n) = 0 ∷ n ∷ []
-numbers (ended n outcome taken steps) = 1 ∷ n ∷ outcome ∷ taken ∷ steps ∷ []
+numbers (ended n outcome taken steps wrong) = 1 ∷ n ∷ outcome ∷ taken ∷ steps ∷ wrong ∷ []
 numbers (refusal number place) = 2 ∷ number ∷ place ∷ []
 
 abbrev pub sameReturned : Answer × List ℕ → Answer × List ℕ → Bool

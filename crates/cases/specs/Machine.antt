@@ -7,7 +7,7 @@ use Rattle.text.specs.Quoted.{bytes}
 use Rattle.walking.specs.Call.{walkCall}
 use Rattle.running.specs.Call.{scratchNumbers, runCall}
 use Rattle.translating.specs.Call.{translation}
-use Rattle.cases.specs.Row.{Row, _gives_, refuses, fits, meets, bytesMade, untouched}
+use Rattle.cases.specs.Row.{Row, _gives_, refuses, fits, tries, meets, bytesMade, untouched}
 
 -- an if on register 5 with an else: what it shows for an answer
 abbrev pub shows : List ℕ → List ℕ → ℤ → List ℕ → List ℕ → ℕ → List Row
@@ -78,14 +78,47 @@ abbrev pub nested : List ℕ
 nested =
     bytes "input,1,N\nif,1,ge,0\nif,1,gt,5\nprint,big\nelse\nif,1,eq,3\nprintex,three\nfi\nfi\nelse\nprint,less\nfi\nif,1,lt,9\nelse\nfi\n"
 
+-- document 02, c): one wrong answer, two, three, and the right one as the third; "in the same question", so that the count begins again with the
+-- next question, and an input has none
+abbrev pub colour : List ℕ
+colour = bytes "inputs,3,Col,red,blue\n"
+
+abbrev pub wrongChoices : List Row
+wrongChoices =
+    tries colour (pos 5 ∷ []) (bytes "C,Col,red,blue\nA,5\nC,Col,red,blue\n") 2 1 2 1
+    ++ tries colour (pos 5 ∷ pos 6 ∷ []) (bytes "C,Col,red,blue\nA,5\nC,Col,red,blue\nA,6\nC,Col,red,blue\n") 2 2 3 2
+    ++ tries colour (pos 5 ∷ pos 6 ∷ pos 7 ∷ []) (bytes "C,Col,red,blue\nA,5\nC,Col,red,blue\nA,6\nC,Col,red,blue\n") 3 2 3 3
+    ++ meets
+    colour
+    (pos 5 ∷ pos 6 ∷ pos 1 ∷ [])
+    (bytes "C,Col,red,blue\nA,5\nC,Col,red,blue\nA,6\nC,Col,red,blue\nA,1\n")
+    1
+    3
+    3
+    ++ tries
+    (bytes "inputs,0,p,a,b\ninputs,0,q,c,d\n")
+    (pos 5 ∷ pos 0 ∷ pos 6 ∷ [])
+    (bytes "C,p,a,b\nA,5\nC,p,a,b\nA,0\nC,q,c,d\nA,6\nC,q,c,d\n")
+    2
+    3
+    4
+    1
+    ++ meets
+    (bytes "inputs,0,p,a,b\ninput,1,q\n")
+    (pos 5 ∷ pos 0 ∷ [])
+    (bytes "C,p,a,b\nA,5\nC,p,a,b\nA,0\nQ,q\n")
+    2
+    2
+    3
+
 abbrev pub machine : List Row
 machine =
     operators
     -- a C line; the first option, the last, one past it, one below 0, no answer; of 8 options the last and one past it
     ++ meets choice (pos 0 ∷ []) (bytes "C,Lamp,on,off\nA,0\n") 1 1 2
     ++ meets choice (pos 1 ∷ []) (bytes "C,Lamp,on,off\nA,1\nV,Dark\n") 0 1 3
-    ++ meets choice (pos 2 ∷ []) (bytes "C,Lamp,on,off\n") 3 0 1
-    ++ meets choice (negsuc 0 ∷ []) (bytes "C,Lamp,on,off\n") 3 0 1
+    ++ tries choice (pos 2 ∷ []) (bytes "C,Lamp,on,off\nA,2\nC,Lamp,on,off\n") 2 1 2 1
+    ++ tries choice (negsuc 0 ∷ []) (bytes "C,Lamp,on,off\nA,-1\nC,Lamp,on,off\n") 2 1 2 1
     ++ meets choice [] (bytes "C,Lamp,on,off\n") 2 0 1
     ++ meets
     (bytes "inputs,0,q,a,b,c,d,e,f,g,h\n")
@@ -94,7 +127,15 @@ machine =
     1
     1
     1
-    ++ meets (bytes "inputs,0,q,a,b,c,d,e,f,g,h\n") (pos 8 ∷ []) (bytes "C,q,a,b,c,d,e,f,g,h\n") 3 0 1
+    ++ tries
+    (bytes "inputs,0,q,a,b,c,d,e,f,g,h\n")
+    (pos 8 ∷ [])
+    (bytes "C,q,a,b,c,d,e,f,g,h\nA,8\nC,q,a,b,c,d,e,f,g,h\n")
+    2
+    1
+    2
+    1
+    ++ wrongChoices
     -- answers left over are no fault; what a verdict leaves behind is not met
     ++ meets (bytes "printex,Done\nprint,never\n") (pos 1 ∷ pos 2 ∷ []) (bytes "V,Done\n") 0 0 1
     -- a register keeps its value; another one is 0
@@ -112,13 +153,20 @@ machine =
     ++ meets nested (negsuc 0 ∷ []) (bytes "Q,N\nA,-1\nS,less\n") 1 1 5
     ++ meets (bytes "if,0,eq,0\nprintex,a\nelse\nprint,b\nfi\n") [] (bytes "V,a\n") 0 0 2
     ++ meets (bytes "if,0,eq,0\ninput,0,a\nelse\nprint,b\nfi\n") [] (bytes "Q,a\n") 2 0 2
-    ++ meets (bytes "if,0,eq,0\ninputs,0,q,a,b\nelse\nprint,b\nfi\n") (pos 2 ∷ []) (bytes "C,q,a,b\n") 3 0 2
+    ++ tries
+    (bytes "if,0,eq,0\ninputs,0,q,a,b\nelse\nprint,b\nfi\n")
+    (pos 2 ∷ pos 2 ∷ pos 2 ∷ [])
+    (bytes "C,q,a,b\nA,2\nC,q,a,b\nA,2\nC,q,a,b\n")
+    3
+    2
+    4
+    3
     -- a buffer just long enough, and one byte less; scratch of 64 and of 63
-    ++ fits (walkCall choice [] (pos 0 ∷ [])) (bytes "C,Lamp,on,off\nA,0\n") (ended 18 1 1 2)
+    ++ fits (walkCall choice [] (pos 0 ∷ [])) (bytes "C,Lamp,on,off\nA,0\n") (ended 18 1 1 2 0)
     ++ fits
     (runCall (bytesMade (translation [] choice)) [] (pos 0 ∷ []) scratchNumbers)
     (bytes "C,Lamp,on,off\nA,0\n")
-    (ended 18 1 1 2)
+    (ended 18 1 1 2 0)
     ++ refuses (runCall (bytesMade (translation [] choice)) [] (pos 0 ∷ []) scratchNumbers) 11 0
     ++ ((runCall (bytesMade (translation [] [])) [] [] 63 (untouched 4) gives (refusal 11 0, untouched 4)) ∷ [])
-    ++ ((runCall (bytesMade (translation [] [])) [] [] 64 (untouched 4) gives (ended 0 1 0 0, untouched 4)) ∷ [])
+    ++ ((runCall (bytesMade (translation [] [])) [] [] 64 (untouched 4) gives (ended 0 1 0 0 0, untouched 4)) ∷ [])

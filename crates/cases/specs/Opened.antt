@@ -33,5 +33,5 @@ use Rattle.cases.specs.Listings.{phraseLines}
 use Rattle.cases.specs.Row.{hex, utf8, bitsIn, times, numbered}
 
 unfoldable pub opened : ℕ
-unfolding allAgree phraseLines hex utf8 bitsIn times numbered Bits.bitsOf Bits.valueOf Bits.bytesBits Bits.filled Bits.bytesOf Bits.pack TextNumber.valueFrom TextNumber.isNatural TextNumber.natural TextNumber.constant TextNumber.digits TextNumber.decimal TextParts.split TextParts.join TextParts.same TextParts.all Text.isText Utf8.begins Utf8.lettersBehind Utf8.wellFormed PhrasesBook.phrasesFrom PhrasesBook.bookPhrases Phrases.place Phrases.find Phrases.widthFrom Phrases.width TranscriptPerform.perform TranscriptPerform.holds TranscriptPerform.report TranscriptState.lineBytes TranscriptState.transcriptBytes TranscriptState.start TranscriptWaiting.endsAsking LinesCheck.checkFrom LinesCheck.checkLines LinesCheck.accept LinesLine.operator LinesLine.kindLine LinesLine.lineOf LinesLine.linesIn Plate.characters Plate.spelled Plate.ownFrom Plate.ownCount Plate.phraseAt Plate.phrase Plate.text Plate.constant Plate.test Plate.skip Plate.options Plate.instruction Plate.program Plate.zeros Plate.filling Plate.wholePlate Plate.plateProgram PlateReading.number PlateReading.judged PlateReading.return PlateReading._>>=_ PlateReading.many PlateWriting.spelledBits PlateWriting.textBits PlateWriting.textsBits PlateWriting.constantBits PlateWriting.instructionsBits PlateWriting.phrasesBits PlateWriting.ownBits PlateWriting.programBits PlateWriting.plateBytes ListingCalls.writtenPlate ListingCalls.readListing ListingCalls.writePlateCall ListingCalls.readPlateCall Listing.programFields Listing.linesText Listing.listingText Listing.instructionsOf Listing.firstPast Listing.listingProgram GuideBlock.parse GuideBlock.blockOf Guide.guideOf WalkCall.walked WalkCall.walkCall Walk.walk RunCall.ran RunCall.runCall Run.run TranslateCall.translation TranslateCall.translateCall TranslateTranslation.translateBlock TranslateTranslation.translateGuide PrintedLines.plateLine PrintedLines.refusedLine PrintedPairs.pairs Show.accepted Show.shown
+unfolding allAgree phraseLines hex utf8 bitsIn times numbered Bits.bitsOf Bits.valueOf Bits.bytesBits Bits.filled Bits.bytesOf Bits.pack TextNumber.valueFrom TextNumber.isNatural TextNumber.natural TextNumber.constant TextNumber.digits TextNumber.decimal TextParts.split TextParts.join TextParts.same TextParts.all Text.isText Utf8.begins Utf8.lettersBehind Utf8.wellFormed PhrasesBook.phrasesFrom PhrasesBook.bookPhrases Phrases.place Phrases.find Phrases.widthFrom Phrases.width TranscriptPerform.choose TranscriptPerform.perform TranscriptPerform.holds TranscriptPerform.report TranscriptState.lineBytes TranscriptState.transcriptBytes TranscriptState.start TranscriptWaiting.endsAsking LinesCheck.checkFrom LinesCheck.checkLines LinesCheck.accept LinesLine.operator LinesLine.kindLine LinesLine.lineOf LinesLine.linesIn Plate.characters Plate.spelled Plate.ownFrom Plate.ownCount Plate.phraseAt Plate.phrase Plate.text Plate.constant Plate.test Plate.skip Plate.options Plate.instruction Plate.program Plate.zeros Plate.filling Plate.wholePlate Plate.plateProgram PlateReading.number PlateReading.judged PlateReading.return PlateReading._>>=_ PlateReading.many PlateWriting.spelledBits PlateWriting.textBits PlateWriting.textsBits PlateWriting.constantBits PlateWriting.instructionsBits PlateWriting.phrasesBits PlateWriting.ownBits PlateWriting.programBits PlateWriting.plateBytes ListingCalls.writtenPlate ListingCalls.readListing ListingCalls.writePlateCall ListingCalls.readPlateCall Listing.programFields Listing.linesText Listing.listingText Listing.instructionsOf Listing.firstPast Listing.listingProgram GuideBlock.parse GuideBlock.blockOf Guide.guideOf WalkCall.walked WalkCall.walkCall Walk.walk RunCall.ran RunCall.runCall Run.run TranslateCall.translation TranslateCall.translateCall TranslateTranslation.translateBlock TranslateTranslation.translateGuide PrintedLines.plateLine PrintedLines.refusedLine PrintedPairs.pairs Show.accepted Show.shown
 opened = 0

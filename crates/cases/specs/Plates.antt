@@ -110,4 +110,4 @@ plates =
     ++ ((runCall (hex "002C9F2C18") [] [] 63 (untouched 9) gives (refusal 11 0, untouched 9)) ∷ [])
     ++ ((runCall (hex "002C9F2C19") [] [] 0 (untouched 9) gives (refusal 15 37, untouched 9)) ∷ [])
     ++ fits (readPlateCall (hex "002C9F2C18") []) (bytes "printex,OK\n") (wrote 11)
-    ++ fits (runCall (hex "002C9F2C18") [] [] scratchNumbers) (bytes "V,OK\n") (ended 5 0 0 1)
+    ++ fits (runCall (hex "002C9F2C18") [] [] scratchNumbers) (bytes "V,OK\n") (ended 5 0 0 1 0)

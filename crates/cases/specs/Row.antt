@@ -129,15 +129,24 @@ abbrev pub bytesMade : Result (List ℕ) → List ℕ
 bytesMade (made bs) = bs
 bytesMade (refused cause place) = []
 
--- a walk or a run, with the buffer's other bytes as they were: the transcript, the outcome, the answers taken and the steps
-abbrev pub ends : (List ℕ → Answer × List ℕ) → List ℕ → ℕ → ℕ → ℕ → List Row
-ends call transcript outcome taken steps =
+-- a walk or a run, with the buffer's other bytes as they were: the transcript, the outcome, the answers taken, the steps and the wrong
+-- answers to the present question
+abbrev pub leaves : (List ℕ → Answer × List ℕ) → List ℕ → ℕ → ℕ → ℕ → ℕ → List Row
+leaves call transcript outcome taken steps wrong =
     (call (untouched (length transcript + 2))
-    gives (ended (length transcript) outcome taken steps, transcript ++ untouched 2))
+    gives (ended (length transcript) outcome taken steps wrong, transcript ++ untouched 2))
     ∷ []
 
+-- with no wrong answer
+abbrev pub ends : (List ℕ → Answer × List ℕ) → List ℕ → ℕ → ℕ → ℕ → List Row
+ends call transcript outcome taken steps = leaves call transcript outcome taken steps 0
+
 -- a guide walked, and its plate run, with no book
+abbrev pub tries : List ℕ → List ℤ → List ℕ → ℕ → ℕ → ℕ → ℕ → List Row
+tries guide answers transcript outcome taken steps wrong =
+    leaves (walkCall guide [] answers) transcript outcome taken steps wrong
+    ++ leaves (runCall (bytesMade (translation [] guide)) [] answers scratchNumbers) transcript outcome taken steps wrong
+
+-- with no wrong answer
 abbrev pub meets : List ℕ → List ℤ → List ℕ → ℕ → ℕ → ℕ → List Row
-meets guide answers transcript outcome taken steps =
-    ends (walkCall guide [] answers) transcript outcome taken steps
-    ++ ends (runCall (bytesMade (translation [] guide)) [] answers scratchNumbers) transcript outcome taken steps
+meets guide answers transcript outcome taken steps = tries guide answers transcript outcome taken steps 0

@@ -4,7 +4,7 @@ use mathlib.Core.List.{List, _++_}
 use mathlib.Core.Bool.{cond}
 use lib.ListN.{length, drop}
 use lib.Dec.{leb}
-use Rattle.causes.specs.Causes.{number, outcomeNumber}
+use Rattle.causes.specs.Causes.{number, outcomeNumber, wrongAnswers}
 use Rattle.causes.specs.declared.Cause.{Cause}
 use Rattle.causes.specs.declared.Cause.the-variants.{TooShort}
 use Rattle.causes.specs.declared.Written.{Written}
@@ -28,8 +28,8 @@ infixl 20 _>>=_
 pub data Answer : Type 0 where
   -- translate, write_plate, read_plate
   wrote : ℕ → Answer
-  -- walk, run: length, outcome, answers taken, steps
-  ended : ℕ → ℕ → ℕ → ℕ → Answer
+  -- walk, run: length, outcome, answers taken, steps, wrong answers so far in the present question
+  ended : ℕ → ℕ → ℕ → ℕ → ℕ → Answer
   -- "Causes", column returned
   refusal : ℕ → ℕ → Answer
 
@@ -63,5 +63,5 @@ writtenAnswer (written.Refused r) = refusing (r .cause) (r .place)
 
 -- of walk and run
 abbrev pub ranAnswer : Ran → Answer
-ranAnswer (ran.Done r) = ended (r .length) (outcomeNumber (r .outcome)) (r .taken) (r .steps)
+ranAnswer (ran.Done r) = ended (r .length) (outcomeNumber (r .outcome)) (r .taken) (r .steps) (wrongAnswers (r .outcome))
 ranAnswer (ran.Refused r) = refusing (r .cause) (r .place)

@@ -39,9 +39,16 @@ number Unused = 13
 number Spelling = 14
 number Filling = 15
 
--- "Outcomes: 0 verdict; 1 end of guide without one; 2 waiting, no answer left; 3 an inputs answer outside its options"
+-- "Outcomes: 0 verdict; 1 end of guide without one; 2 waiting, no answer left; 3 an inputs answer outside its options" for the third time
 abbrev pub outcomeNumber : Outcome → ℕ
 outcomeNumber Verdict = 0
 outcomeNumber End = 1
-outcomeNumber Waiting = 2
+outcomeNumber (Waiting wrong) = 2
 outcomeNumber Outside = 3
+
+-- "the wrong answers so far in the present question (3 with outcome 3, 0 after any other end)"
+abbrev pub wrongAnswers : Outcome → ℕ
+wrongAnswers Verdict = 0
+wrongAnswers End = 0
+wrongAnswers (Waiting wrong) = wrong
+wrongAnswers Outside = 3

@@ -33,6 +33,10 @@ mostPlateBytes = 2953
 abbrev pub mostPlateBits : ℕ
 mostPlateBits = 23624
 
+-- no transcript is longer: 512 inputs of 1,793 bytes, each with its C line three times, two wrong answers and the third, an option's place
+abbrev pub mostTranscriptBytes : ℕ
+mostTranscriptBytes = 918016
+
 -- "SKIP 0 to 511", which are 9 bits: 5
 abbrev pub skips : ℕ
 skips = 512

@@ -1,5 +1,5 @@
 ghost use mathlib.Core.Path.{_≡_};
-ghost use Rattle.causes.specs.Causes.{number, outcomeNumber};
+ghost use Rattle.causes.specs.Causes.{number, outcomeNumber, wrongAnswers};
 
 // Why a call refuses, and what the five calls answer.
 // A Cause is a row of document 01's table of causes; a Refusal adds the place. The paper's number for each cause, and its values
@@ -51,7 +51,8 @@ pub struct Refusal {
 pub enum Outcome {
     Verdict,
     End,
-    Waiting,
+    // After so many wrong answers to the present question.
+    Waiting { wrong: u32 },
     Outside,
 }
 
@@ -105,7 +106,19 @@ pub fn outcome_of(outcome: Outcome) -> u32
     match outcome {
         Outcome::Verdict => 0,
         Outcome::End => 1,
-        Outcome::Waiting => 2,
+        Outcome::Waiting { .. } => 2,
+        Outcome::Outside => 3,
+    }
+}
+
+// The wrong answers so far in the present question.
+pub fn wrong_of(outcome: Outcome) -> u32
+    ensures { λ r. ⌜ r ≡ wrongAnswers outcome ⌝ }
+{
+    match outcome {
+        Outcome::Verdict => 0,
+        Outcome::End => 0,
+        Outcome::Waiting { wrong } => wrong,
         Outcome::Outside => 3,
     }
 }

@@ -14,5 +14,8 @@ pub const INSTRUCTIONS: usize = 512;
 
 pub const PLATE_BYTES: usize = 2953;
 
+// Of the longest transcript.
+pub const TRANSCRIPT_BYTES: usize = 918016;
+
 // SKIP is 0 to 511.
 pub const SKIPS: usize = 512;

@@ -1,9 +1,9 @@
 -- The values of an answer, where the answer is known.
 use Prim.Native.Nat.{ℕ}
-use mathlib.Core.Path.{_≡_, sym, ap, _∙_}
+use mathlib.Core.Path.{_≡_, sym, ap, ap₂, _∙_}
 use mathlib.Core.List.{List}
 use Rattle.causes.specs.Answers.{Answer, writtenAnswer, ranAnswer}
-use Rattle.causes.specs.Causes.{number, outcomeNumber}
+use Rattle.causes.specs.Causes.{number, outcomeNumber, wrongAnswers}
 use Rattle.causes.specs.declared.Refusal.{Refusal}
 use Rattle.causes.specs.declared.Report.{Report}
 use Rattle.causes.specs.declared.Written.{Written}
@@ -19,7 +19,7 @@ abbrev written-refusal : ℕ → ℕ → WrittenValues
 written-refusal k place = record { number = k; place = place; length = 0 }
 
 abbrev ran-refusal : ℕ → ℕ → RanValues
-ran-refusal k place = record { number = k; place = place; length = 0; outcome = 0; taken = 0; steps = 0 }
+ran-refusal k place = record { number = k; place = place; length = 0; outcome = 0; taken = 0; steps = 0; wrong = 0 }
 
 pub wrote : {a : Written} {n : ℕ} → a ≡ written.Done n → record { number = 0; place = 0; length = n } ≡ writtenValues (writtenAnswer a)
 wrote e = sym (ap (λ a. writtenValues (writtenAnswer a)) e)
@@ -32,19 +32,20 @@ pub not-written :
 not-written {r = r} e is = ap (λ k. written-refusal k (r .place)) is ∙ sym (ap (λ a. writtenValues (writtenAnswer a)) e)
 
 pub ended :
-    {a : Ran} {r : Report} {o : ℕ} →
+    {a : Ran} {r : Report} {o w : ℕ} →
     a ≡ ran.Done r →
     o ≡ outcomeNumber (r .outcome) →
-    record { number = 0; place = 0; length = r .length; outcome = o; taken = r .taken; steps = r .steps } ≡ ranValues (ranAnswer a)
-ended {r = r} e is =
-    ap (λ o. record { number = 0; place = 0; length = r .length; outcome = o; taken = r .taken; steps = r .steps }) is
+    w ≡ wrongAnswers (r .outcome) →
+    record { number = 0; place = 0; length = r .length; outcome = o; taken = r .taken; steps = r .steps; wrong = w } ≡ ranValues (ranAnswer a)
+ended {r = r} e is wrong =
+    ap₂ (λ o w. record { number = 0; place = 0; length = r .length; outcome = o; taken = r .taken; steps = r .steps; wrong = w }) is wrong
     ∙ sym (ap (λ a. ranValues (ranAnswer a)) e)
 
 pub not-run :
     {a : Ran} {r : Refusal} {k : ℕ} →
     a ≡ ran.Refused r →
     k ≡ number (r .cause) →
-    record { number = k; place = r .place; length = 0; outcome = 0; taken = 0; steps = 0 } ≡ ranValues (ranAnswer a)
+    record { number = k; place = r .place; length = 0; outcome = 0; taken = 0; steps = 0; wrong = 0 } ≡ ranValues (ranAnswer a)
 not-run {r = r} e is = ap (λ k. ran-refusal k (r .place)) is ∙ sym (ap (λ a. ranValues (ranAnswer a)) e)
 
 -- A call's answer and buffer are those of its definition, field by field.

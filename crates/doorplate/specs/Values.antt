@@ -9,11 +9,11 @@ use Rattle.doorplate.specs.declared.RanValues.{RanValues}
 
 -- The fields of a doorplate_ran.
 abbrev pub ranValues : Answer → RanValues
-ranValues (wrote length) = record { number = 0; place = 0; length = length; outcome = 0; taken = 0; steps = 0 }
-ranValues (ended length outcome taken steps) =
-    record { number = 0; place = 0; length = length; outcome = outcome; taken = taken; steps = steps }
+ranValues (wrote length) = record { number = 0; place = 0; length = length; outcome = 0; taken = 0; steps = 0; wrong = 0 }
+ranValues (ended length outcome taken steps wrong) =
+    record { number = 0; place = 0; length = length; outcome = outcome; taken = taken; steps = steps; wrong = wrong }
 ranValues (refusal number place) =
-    record { number = number; place = place; length = 0; outcome = 0; taken = 0; steps = 0 }
+    record { number = number; place = place; length = 0; outcome = 0; taken = 0; steps = 0; wrong = 0 }
 
 -- The fields of a doorplate_written: the first three of those.
 abbrev pub writtenValues : Answer → WrittenValues

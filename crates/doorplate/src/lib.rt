@@ -27,6 +27,7 @@ pub struct RanValues {
     pub outcome: u32,
     pub taken: u64,
     pub steps: u64,
+    pub wrong: u32,
 }
 
 // The values of an answer of translate, write_plate or read_plate.
@@ -64,6 +65,7 @@ fn ran_values(answer: causes::Ran) -> RanValues
                 outcome: causes::outcome_of(outcome),
                 taken: report.taken as u64,
                 steps: report.steps as u64,
+                wrong: causes::wrong_of(outcome),
             }
         }
         causes::Ran::Refused(r) => {
@@ -75,6 +77,7 @@ fn ran_values(answer: causes::Ran) -> RanValues
                 outcome: 0,
                 taken: 0,
                 steps: 0,
+                wrong: 0,
             }
         }
     }

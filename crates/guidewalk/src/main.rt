@@ -1,7 +1,7 @@
-// guidewalk GUIDE BOOK ANSWER..: walks a guide on the answers. Prints the transcript, and a line with the outcome, the answers taken and
-// the steps; or its refusal.
+// guidewalk GUIDE BOOK ANSWER..: walks a guide on the answers. Prints the transcript, and a line with the outcome, the answers taken, the
+// steps and the wrong answers to the present question; or its refusal.
 // A guide of more than 16,384 bytes is refused whatever it holds, so that 16,385 bytes of it are enough. A walk meets at most 512
-// statements, so that no more answers are taken, and writes at most 601 bytes for each.
+// statements, and each takes at most three answers.
 use causes::Ran;
 use causes::Refusal;
 use causes::Report;
@@ -21,7 +21,7 @@ fn refuse(r: Refusal) {
     io::write_all(STDERR_FILENO, front(&words, end));
 }
 
-// The transcript, and the line behind it, which has at most 65 bytes.
+// The transcript, and the line behind it, which has at most 73 bytes.
 fn report(transcript: &[u8], r: Report) {
     let length = r.length;
     io::write_all(STDOUT_FILENO, front(transcript, length));
@@ -32,7 +32,7 @@ fn report(transcript: &[u8], r: Report) {
 
 // What is printed of the walk.
 fn print(guide: &[u8], book: &[u8], answers: &[i32]) {
-    let mut transcript = [0; tools::TRANSCRIPT];
+    let mut transcript = tools::transcript_space();
     match walk::walk(guide, book, answers, &mut transcript) {
         Ran::Refused(r) => refuse(r),
         Ran::Done(r) => report(&transcript, r),

@@ -23,19 +23,19 @@ use Rattle.machine.proofs.Lay.{lay-behind}
 outcome-by : (k : Outcome) (s : State) → outcomeOf (endingBy k s) ≡ k
 outcome-by Verdict s = refl
 outcome-by End s = refl
-outcome-by Waiting s = refl
+outcome-by (Waiting wrong) s = refl
 outcome-by Outside s = refl
 
 state-by : (k : Outcome) (s : State) → stateOf (endingBy k s) ≡ s
 state-by Verdict s = refl
 state-by End s = refl
-state-by Waiting s = refl
+state-by (Waiting wrong) s = refl
 state-by Outside s = refl
 
 outcome-cleared : (e : Ending) → outcomeOf (clearedEnding e) ≡ outcomeOf e
 outcome-cleared (goesOn s) = refl
 outcome-cleared (verdict s) = refl
-outcome-cleared (waits s) = refl
+outcome-cleared (waits wrong s) = refl
 outcome-cleared (outside s) = refl
 
 module _ (rs answers : List ℤ) (r : Performed) (o : List ℕ) (at : ℕ) (e : Ending) (out : List ℕ) (h : performed rs answers r o ≡ laid at e out) where
@@ -60,7 +60,7 @@ pub lay-ended : (rs answers : List ℤ) (r : Performed) (o : List ℕ) (at : ℕ
     → performed rs answers r o ≡ laid at e out → (r .outcome ≡ End → ⊥) → performed rs answers r o ≡ laid at (andThen e f) out
 lay-ended rs answers r o at (goesOn s) f out h k = absurd (k (lay-outcome rs answers r o at (goesOn s) out h))
 lay-ended rs answers r o at (verdict s) f out h k = h
-lay-ended rs answers r o at (waits s) f out h k = h
+lay-ended rs answers r o at (waits wrong s) f out h k = h
 lay-ended rs answers r o at (outside s) f out h k = h
 
 -- with End, what follows goes on from the machine and from where the transcript ends
@@ -68,7 +68,7 @@ pub lay-goes : (rs answers : List ℤ) (r : Performed) (o : List ℕ) (at : ℕ)
     → performed rs answers r o ≡ laid at e out → r .outcome ≡ End → Natural f → length out < 9223372036854775808
     → laid (r .end) (f (machineState rs answers (r .machine))) o ≡ laid at (andThen e f) out
 lay-goes rs answers r o at (verdict s) f out h k n l = absurd (omega (arith, ap outcomeNumber (sym k ∙ lay-outcome rs answers r o at (verdict s) out h)))
-lay-goes rs answers r o at (waits s) f out h k n l = absurd (omega (arith, ap outcomeNumber (sym k ∙ lay-outcome rs answers r o at (waits s) out h)))
+lay-goes rs answers r o at (waits wrong s) f out h k n l = absurd (omega (arith, ap outcomeNumber (sym k ∙ lay-outcome rs answers r o at (waits wrong s) out h)))
 lay-goes rs answers r o at (outside s) f out h k n l = absurd (omega (arith, ap outcomeNumber (sym k ∙ lay-outcome rs answers r o at (outside s) out h)))
 lay-goes rs answers r o at (goesOn s) f out h k n l =
     let w : behindEnding (s .transcript) (f (cleared s)) ≡ f s = sym (n (s .transcript) (cleared s)) ∙ ap f (rw append-nil) in

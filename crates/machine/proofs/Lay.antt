@@ -1,7 +1,7 @@
 -- Lines and endings in the transcript buffer, one behind the other, and what the code answers with them.
 use Prim.Native.Nat.{ℕ, _≤_, _<_}
 use mathlib.Core.Path.{_≡_, refl, sym, ap, _∙_}
-use mathlib.Core.List.{List, [], _∷_, _++_, append-nil, append-assoc}
+use mathlib.Core.List.{List, [], _∷_, _++_}
 use lib.ListN.{length}
 use lib.IntN.{ℤ}
 use Rattle.causes.specs.declared.Outcome.{Outcome}
@@ -12,32 +12,16 @@ use Rattle.transcript.specs.declared.Machine.{Machine}
 use Rattle.transcript.specs.State.{TranscriptLine, State, lineBytes, transcriptBytes}
 use Rattle.transcript.specs.Perform.{Ending, goesOn, verdict, waits, outside, stateOf}
 use Rattle.transcript.specs.Machine.{machineState, endingBy, cleared, clearedEnding, laid, performed}
-use Rattle.transcript.proofs.Natural.{behindEnding}
-
--- ---- the bytes of lines
-
-pub bytes-append : (t u : List TranscriptLine) → transcriptBytes (t ++ u) ≡ transcriptBytes t ++ transcriptBytes u
-unfolding transcriptBytes
-bytes-append [] u = refl
-bytes-append (l ∷ t) u = ap (λ (b : List ℕ). lineBytes l ++ b) (bytes-append t u) ∙ sym (append-assoc (lineBytes l) (transcriptBytes t) (transcriptBytes u))
-
-pub bytes-one : (l : TranscriptLine) → transcriptBytes (l ∷ []) ≡ lineBytes l
-unfolding transcriptBytes
-bytes-one l = append-nil (lineBytes l)
+use Rattle.transcript.proofs.Natural.{behindEnding, lines-behind}
+use Rattle.transcript.proofs.Bytes.{bytes-append, bytes-one}
 
 -- ---- an ending behind lines that have been written
 
 cleared-behind : (t : List TranscriptLine) (e : Ending) → clearedEnding (behindEnding t e) ≡ clearedEnding e
 cleared-behind t (goesOn s) = refl
 cleared-behind t (verdict s) = refl
-cleared-behind t (waits s) = refl
+cleared-behind t (waits wrong s) = refl
 cleared-behind t (outside s) = refl
-
-lines-behind : (t : List TranscriptLine) (e : Ending) → stateOf (behindEnding t e) .transcript ≡ t ++ stateOf e .transcript
-lines-behind t (goesOn s) = refl
-lines-behind t (verdict s) = refl
-lines-behind t (waits s) = refl
-lines-behind t (outside s) = refl
 
 -- an ending and what is written of it
 same-laid : (e f : Ending) (at x : ℕ) (out mid : List ℕ) → clearedEnding e ≡ clearedEnding f
@@ -71,7 +55,7 @@ pub lay-state : (rs answers : List ℤ) (n : Machine) (k : Outcome) (s : State) 
 unfolding performed laid poured
 lay-state rs answers n Verdict s at x out o c p = λ i. record { ending = verdict (c i); end = p i .0; buffer = p i .1 }
 lay-state rs answers n End s at x out o c p = λ i. record { ending = goesOn (c i); end = p i .0; buffer = p i .1 }
-lay-state rs answers n Waiting s at x out o c p = λ i. record { ending = waits (c i); end = p i .0; buffer = p i .1 }
+lay-state rs answers n (Waiting wrong) s at x out o c p = λ i. record { ending = waits wrong (c i); end = p i .0; buffer = p i .1 }
 lay-state rs answers n Outside s at x out o c p = λ i. record { ending = outside (c i); end = p i .0; buffer = p i .1 }
 
 -- registers and a machine, with nothing written

@@ -1,7 +1,7 @@
 // platerun PLATE BOOK ANSWER..: runs a plate, given in hexadecimal, on the answers. Prints the transcript, and a line with the outcome,
-// the answers taken and the steps; or its refusal.
+// the answers taken, the steps and the wrong answers to the present question; or its refusal.
 // A plate of more than 2,953 bytes is refused whatever it holds, so that 2,954 bytes of it are enough. A run meets at most 512
-// instructions, so that no more answers are taken, and writes at most 601 bytes for each.
+// instructions, and each takes at most three answers.
 use causes::Ran;
 use causes::Refusal;
 use causes::Report;
@@ -21,7 +21,7 @@ fn refuse(r: Refusal) {
     io::write_all(STDERR_FILENO, front(&words, end));
 }
 
-// The transcript, and the line behind it, which has at most 65 bytes.
+// The transcript, and the line behind it, which has at most 73 bytes.
 fn report(transcript: &[u8], r: Report) {
     let length = r.length;
     io::write_all(STDOUT_FILENO, front(transcript, length));
@@ -33,7 +33,7 @@ fn report(transcript: &[u8], r: Report) {
 // What is printed of the run.
 fn print(plate: &[u8], book: &[u8], answers: &[i32]) {
     let mut scratch = [0; run::SCRATCH_NUMBERS];
-    let mut transcript = [0; tools::TRANSCRIPT];
+    let mut transcript = tools::transcript_space();
     match run::run(plate, book, answers, &mut scratch, &mut transcript) {
         Ran::Refused(r) => refuse(r),
         Ran::Done(r) => report(&transcript, r),

@@ -37,7 +37,7 @@ pub fn put_plate(out: &mut [u8], at: usize, plate: &[u8]) -> usize
     text_out::put_byte(out, end, b'\n')
 }
 
-// outcome,N,taken,N,steps,N
+// outcome,N,taken,N,steps,N,wrong,N
 pub fn put_report(out: &mut [u8], at: usize, r: Report) -> usize
     ensures { λ x. ⌜ (x, now (out .exit)) ≡ poured at (reportLine (r .outcome) (r .taken) (r .steps)) (now (out .entry)) ⌝ }
 {
@@ -45,8 +45,10 @@ pub fn put_report(out: &mut [u8], at: usize, r: Report) -> usize
     let taken = r.taken;
     let steps = r.steps;
     let number = causes::outcome_of(outcome);
+    let wrong = causes::wrong_of(outcome);
     let end = put_labelled(out, at, b"outcome,", number as usize);
     let end = put_labelled(out, end, b",taken,", taken);
     let end = put_labelled(out, end, b",steps,", steps);
+    let end = put_labelled(out, end, b",wrong,", wrong as usize);
     text_out::put_byte(out, end, b'\n')
 }

@@ -8,7 +8,7 @@ use Rattle.listing.specs.Calls.{writePlateCall, readPlateCall}
 -- and the second buffer is as it was
 abbrev pub sameAgain : Answer → List ℕ → List ℕ → Answer × List ℕ
 sameAgain (wrote n) text buffer = lent (made (output text)) buffer
-sameAgain (ended n outcome taken steps) text buffer = lent (made (output text)) buffer
+sameAgain (ended n outcome taken steps wrong) text buffer = lent (made (output text)) buffer
 sameAgain (refusal number place) text buffer = (refusal number place, buffer)
 
 -- a listing, written as a plate into the first buffer and read back into the second

@@ -1,8 +1,7 @@
 -- A run over the instructions of a plate, one by one.
-use Prim.Native.Nat.{ℕ, zero, suc, _-_, _≤_, _<_}
-use mathlib.Core.Path.{_≡_, refl, sym, ap, _∙_}
-use mathlib.Core.List.{List, [], _∷_}
-use mathlib.Core.Bool.{cond}
+use Prim.Native.Nat.{ℕ, _-_, _≤_, _<_}
+use mathlib.Core.Path.{_≡_, sym, ap, _∙_}
+use mathlib.Core.List.{List, _∷_}
 use lib.ListN.{length}
 use lib.IntN.{ℤ}
 use Rattle.causes.specs.declared.Outcome.{Outcome}
@@ -10,13 +9,12 @@ use Rattle.causes.specs.declared.Outcome.the-variants.{End}
 use Rattle.phrases.specs.Lookup.{phrasesIn}
 use Rattle.transcript.specs.declared.Machine.{Machine}
 use Rattle.transcript.specs.declared.Performed.{Performed}
-use Rattle.transcript.specs.State.{State, step, start}
-use Rattle.transcript.specs.Perform.{Ending, andThen, perform, holds}
+use Rattle.transcript.specs.State.{State, start}
+use Rattle.transcript.specs.Perform.{Ending, andThen}
 use Rattle.transcript.specs.Machine.{machineState, endingBy, Laid, laid, performed}
-use Rattle.transcript.proofs.Natural.{Natural, then-natural, perform-natural, holds-behind}
 use Rattle.machine.proofs.Lay.{lay-here}
 use Rattle.machine.proofs.Follow.{lay-ended, lay-goes}
-use Rattle.plate.specs.Program.{Instruction, statement, goto, ifSkip}
+use Rattle.plate.specs.Program.{Instruction}
 use Rattle.plate.specs.Plate as reader
 use Rattle.plate.specs.Reading.{Read, got}
 use Rattle.fields.specs.Places.{placeAt, endWith, Known}
@@ -25,20 +23,11 @@ use Rattle.instructions.specs.Heads.{instructionOf}
 use Rattle.reader.specs.declared.Contents.{Contents}
 use Rattle.reader.specs.Holding.{instructionsAt, programAt}
 use Rattle.running.specs.Run.{run}
+use Rattle.running.proofs.Natural.{run-natural}
 use Rattle.run_steps.specs.Meets.{leftBy, overBy}
 use Rattle.run.specs.Accepted.{instructionsFrom, Continues}
 use Rattle.run.proofs.Nexts.{next-read, next-there, none-left}
 use Rattle.run_steps.proofs.Meeting.{run-first}
-
--- ---- a run only adds to the transcript
-
-pub run-natural : (xs : List Instruction) (over : ℕ) → Natural (run xs over)
-unfolding run
-run-natural [] over t s = refl
-run-natural (x ∷ xs) (suc over) t s = run-natural xs over t s
-run-natural (statement x ∷ xs) zero t s = then-natural (perform x) (run xs 0) (perform-natural x) (run-natural xs 0) t s
-run-natural (goto skip ∷ xs) zero t s = run-natural xs skip t (step s)
-run-natural (ifSkip test skip ∷ xs) zero t s = rw (holds-behind test t s) (run-natural xs (cond (holds test s) 0 skip) t (step s))
 
 -- ---- what follows an instruction
 

@@ -1,5 +1,6 @@
--- No run's transcript is longer than the room of its instructions' lines in a listing, less 4 bytes for each instruction, and 14 bytes for
--- each answer: `print,TEXT` writes `S,TEXT`, the lines of the other statements have more bytes still, and an A line has at most 14.
+-- No run's transcript is longer than three times the room of its instructions' lines in a listing, less 4 bytes for each instruction, and 14
+-- bytes for each answer: `print,TEXT` writes `S,TEXT`, the lines of the other statements have more bytes still, a C line is written at most three
+-- times, and an A line has at most 14.
 use Prim.Native.Nat.{ℕ, zero, suc, _+_, _*_, _≤_, _<_}
 use mathlib.Core.Path.{_≡_}
 use mathlib.Core.List.{List, [], _∷_}
@@ -18,8 +19,7 @@ use Rattle.transcript.specs.Machine.{laid, performed}
 use Rattle.transcript.proofs.Offers.{offered-bytes}
 use Rattle.causes.specs.Answers.{made, lent}
 use Rattle.causes.specs.Answers as result
-use Rattle.causes.specs.Causes.{outcomeNumber}
-use Rattle.output.specs.Pour.{upTo}
+use Rattle.causes.specs.Causes.{outcomeNumber, wrongAnswers}
 use Rattle.output.proofs.Poured.{ended}
 use Rattle.machine.specs.Ranged.{Ranged}
 use Rattle.machine.proofs.Follow.{lay-bytes}
@@ -62,7 +62,7 @@ many-room (x ∷ xs) = omega (arith, many-room xs, some-room x)
 
 -- what an ending writes, with the answers that it leaves
 abbrev Within : ℕ → State → List Instruction → Ending → Type 0
-Within n s xs e = stateRoom (stateOf e) + 4 * n ≤ stateRoom s + linesRoom xs
+Within n s xs e = stateRoom (stateOf e) + 12 * n ≤ stateRoom s + 3 * linesRoom xs
 
 run-room : (xs : List Instruction) (over : ℕ) (s : State) → Within (length xs) s xs (run xs over s)
 unfolding run
@@ -70,11 +70,11 @@ run-room [] over s = omega arith
 run-room (x ∷ xs) (suc over) s = omega (arith, run-room xs over s, some-room x)
 run-room (statement x ∷ xs) zero s = go (perform x s) (perform-room x s) (λ u. run-room xs 0 u)
   where
-    go : (e : Ending) → stateRoom (stateOf e) ≤ stateRoom s + length (lineBytes (firstLine x))
+    go : (e : Ending) → stateRoom (stateOf e) ≤ stateRoom s + 3 * length (lineBytes (firstLine x))
         → ((u : State) → Within (length xs) u xs (run xs 0 u)) → Within (suc (length xs)) s (statement x ∷ xs) (andThen e (run xs 0))
     go (goesOn u) g rest = omega (arith, rest u, line-short x)
     go (verdict u) g rest = omega (arith, many-room xs, line-short x)
-    go (waits u) g rest = omega (arith, many-room xs, line-short x)
+    go (waits wrong u) g rest = omega (arith, many-room xs, line-short x)
     go (outside u) g rest = omega (arith, many-room xs, line-short x)
 run-room (goto skip ∷ xs) zero s = omega (arith, run-room xs skip (step s), some-room (goto skip))
 run-room (ifSkip test skip ∷ xs) zero s =
@@ -85,7 +85,7 @@ run-room (ifSkip test skip ∷ xs) zero s =
 -- the first pass has found the length
 pub second : (e : Ending) (answers rs us : List ℤ) (p q : Performed) (x b o out : List ℕ) → performed rs answers p x ≡ laid 0 e b
     → performed us answers q o ≡ laid 0 e out → p .end ≤ length out → length out < 9223372036854775808
-    → (result.ended (q .end) (outcomeNumber (q .outcome)) (q .machine .taken) (q .machine .steps), o) ≡ lent (made (report e)) out
+    → (result.ended (q .end) (outcomeNumber (q .outcome)) (q .machine .taken) (q .machine .steps) (wrongAnswers (q .outcome)), o) ≡ lent (made (report e)) out
 second e answers rs us p q x b o out h k l f =
     let new = transcriptBytes (stateOf e .transcript) in
     whole us answers e q o out k us q o out k
@@ -97,18 +97,18 @@ module _ (plate index book own : List ℕ) (c : Contents) (a : Accepted plate in
   abbrev ending : Ending
   ending = run (programAt plate book own c .instructions) 0 (start answers)
 
-  run-short : length (transcriptBytes (stateOf ending .transcript)) + 4 * c .instructions ≤ linesRoom (programAt plate book own c .instructions) + 14 * length answers
+  run-short : length (transcriptBytes (stateOf ending .transcript)) + 12 * c .instructions ≤ 3 * linesRoom (programAt plate book own c .instructions) + 14 * length answers
   unfolding programAt instructionsAt start transcriptBytes
   run-short =
       let n = there-length (instruction (phrasesIn book own (c .own))) plate (a .stands .whole) in
       omega (arith, n, run-room (programAt plate book own c .instructions) 0 (start answers), answers-room answers f)
 
   -- a buffer that holds so many bytes needs no first pass
-  pub straight : (rs : List ℤ) (p : Performed) (o out : List ℕ) (most : ℕ) → performed rs answers p o ≡ laid 0 ending out
-      → most ≡ upTo (c .room + 14 * length answers) → most ≤ length out + 4 * c .instructions → length out < 9223372036854775808
-      → (result.ended (p .end) (outcomeNumber (p .outcome)) (p .machine .taken) (p .machine .steps), o) ≡ lent (made (report ending)) out
+  pub straight : (rs : List ℤ) (p : Performed) (o out : List ℕ) → performed rs answers p o ≡ laid 0 ending out
+      → c .room ≤ 16777216 → 3 * c .room + 14 * length answers ≤ length out + 12 * c .instructions → length out < 9223372036854775808
+      → (result.ended (p .end) (outcomeNumber (p .outcome)) (p .machine .taken) (p .machine .steps) (wrongAnswers (p .outcome)), o) ≡ lent (made (report ending)) out
   unfolding programAt
-  straight rs p o out most k m h l =
+  straight rs p o out k m h l =
       let new = transcriptBytes (stateOf ending .transcript) in
       whole rs answers ending p o out k rs p o out k
       (omega (arith, run-short, a .stands .few, a .stands .counted, ended 0 new out (p .end) o (lay-bytes rs answers p o 0 ending out k))) l

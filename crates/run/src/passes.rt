@@ -9,7 +9,7 @@ use transcript::Performed;
 ghost use mathlib.Core.Path.{_≡_};
 ghost use mathlib.Core.List.{List};
 ghost use lib.IntN.{ℤ};
-ghost use Prim.Native.Nat.{_+_, _≤_};
+ghost use Prim.Native.Nat.{_+_, _*_, _≤_};
 ghost use Rattle.causes.specs.Answers.{made, lent, ranAnswer};
 ghost use Rattle.causes.specs.declared.Outcome.the-variants.{End};
 ghost use Rattle.transcript.specs.State.{start};
@@ -33,7 +33,7 @@ fn run_from<'a>(
     out: &mut [u8],
     begun: Performed,
 ) -> Performed
-    requires { ⌜ Accepted (now plate) (now index) (now book) (now own) c × Continues (now plate) (now book) (now own) (c .own) n from × (begun .outcome ≡ End) × (begun .machine .steps + n ≤ 18446744073709551615) ⌝ }
+    requires { ⌜ Accepted (now plate) (now index) (now book) (now own) c × Continues (now plate) (now book) (now own) (c .own) n from × (begun .outcome ≡ End) × (begun .machine .steps + 3 * n ≤ 18446744073709551615) ⌝ }
     ensures { λ r. ⌜ performed (now (registers .exit)) (now (answers .entry)) r (now (out .exit)) ≡ laid (begun .end) (run (instructionsFrom (now (plate .entry)) (now (book .entry)) (now (own .entry)) (c .own) n from) 0 (machineState (now (registers .entry)) (now (answers .entry)) (begun .machine))) (now (out .entry)) ⌝ }
 {
     let count = c.own;
@@ -104,8 +104,8 @@ fn produce<'a>(
     )
 }
 
-// The run of an accepted plate. No transcript has more bytes than the room of its instructions' lines in a listing, less 4 for each instruction,
-// and 14 for each answer: a buffer of so many is written straight. Else the run is made on no buffer first, to learn the transcript's length;
+// The run of an accepted plate. No transcript has more bytes than three times the room of its instructions' lines in a listing, less 4 for each
+// instruction, and 14 for each answer: a buffer of so many is written straight. Else the run is made on no buffer first, to learn the transcript's length;
 // then 11, or the transcript is written.
 pub fn write<'a>(
     plate: &[u8],
@@ -123,9 +123,10 @@ pub fn write<'a>(
     let n = c.instructions;
     let room = c.room;
     if answers.len() <= 65536 {
-        let most = output::sum(room, 14 * answers.len());
-        if most <= transcript.len() + 4 * n {
-            return machine::report_of(produce(plate, index, book, own, c, answers, transcript));
+        if room <= 16777216 {
+            if 3 * room + 14 * answers.len() <= transcript.len() + 12 * n {
+                return machine::report_of(produce(plate, index, book, own, c, answers, transcript));
+            }
         }
     }
     let p = produce(plate, index, book, own, c, answers, &mut []);

@@ -1,7 +1,7 @@
 // An instruction of a run: passed over, performed, or a jump.
 // An instruction is read as it is met: its head, and behind it the texts, which are copied straight from the plate into the transcript. `meet`
 // answers what specs/Meets.antt says: how the instruction is left, with the transcript in the lent buffer, how many behind it are passed over,
-// and the bit behind it. The plate has been read and accepted, so the instruction is there, and one step more must still fit a 64-bit number.
+// and the bit behind it. The plate has been read and accepted, so the instruction is there, and three steps more must still fit a 64-bit number.
 mod perform;
 
 use crate::perform::answer;
@@ -83,9 +83,9 @@ fn perform_head<'a>(
     at: usize,
     m: Machine,
 ) -> Met
-    requires { ⌜ Lent (now plate) (now index) (now book) (now own) count × HeadFits (now plate) head × Known (headed (now plate) (phrasesIn (now book) (now own) count) head) × (m .steps < 18446744073709551615) ⌝ }
+    requires { ⌜ Lent (now plate) (now index) (now book) (now own) count × HeadFits (now plate) head × Known (headed (now plate) (phrasesIn (now book) (now own) count) head) × (m .steps + 3 ≤ 18446744073709551615) ⌝ }
     ensures { λ r. ⌜ performed (now (registers .exit)) (now (answers .entry)) (r .left) (now (out .exit)) ≡ laid at (leftBy 0 (instructionOf (headed (now (plate .entry)) (phrasesIn (now (book .entry)) (now (own .entry)) count) head)) (machineState (now (registers .entry)) (now (answers .entry)) m)) (now (out .entry)) ⌝ }
-    ensures { λ r. ⌜ (r .over ≡ overBy 0 (instructionOf (headed (now (plate .entry)) (phrasesIn (now (book .entry)) (now (own .entry)) count) head)) (machineState (now (registers .entry)) (now (answers .entry)) m)) × (r .left .machine .steps ≡ m .steps + 1) ⌝ }
+    ensures { λ r. ⌜ (r .over ≡ overBy 0 (instructionOf (headed (now (plate .entry)) (phrasesIn (now (book .entry)) (now (own .entry)) count) head)) (machineState (now (registers .entry)) (now (answers .entry)) m)) × (r .left .machine .steps ≤ m .steps + 3) ⌝ }
     ensures { λ r. ⌜ got 0 (placeAt (now (plate .entry)) (r .next)) ≡ endWith 0 (headed (now (plate .entry)) (phrasesIn (now (book .entry)) (now (own .entry)) count) head) ⌝ }
 {
     match head {
@@ -129,9 +129,9 @@ pub fn meet<'a>(
     out: &mut [u8],
     begun: Performed,
 ) -> Met
-    requires { ⌜ Lent (now plate) (now index) (now book) (now own) count × Known (instruction (phrasesIn (now book) (now own) count) behind (placeAt (now plate) bit)) × (begun .machine .steps < 18446744073709551615) ⌝ }
+    requires { ⌜ Lent (now plate) (now index) (now book) (now own) count × Known (instruction (phrasesIn (now book) (now own) count) behind (placeAt (now plate) bit)) × (begun .machine .steps + 3 ≤ 18446744073709551615) ⌝ }
     ensures { λ r. ⌜ performed (now (registers .exit)) (now (answers .entry)) (r .left) (now (out .exit)) ≡ laid (begun .end) (leftBy over (instructionOf (instruction (phrasesIn (now (book .entry)) (now (own .entry)) count) behind (placeAt (now (plate .entry)) bit))) (machineState (now (registers .entry)) (now (answers .entry)) (begun .machine))) (now (out .entry)) ⌝ }
-    ensures { λ r. ⌜ (r .over ≡ overBy over (instructionOf (instruction (phrasesIn (now (book .entry)) (now (own .entry)) count) behind (placeAt (now (plate .entry)) bit))) (machineState (now (registers .entry)) (now (answers .entry)) (begun .machine))) × (r .left .machine .steps ≤ begun .machine .steps + 1) ⌝ }
+    ensures { λ r. ⌜ (r .over ≡ overBy over (instructionOf (instruction (phrasesIn (now (book .entry)) (now (own .entry)) count) behind (placeAt (now (plate .entry)) bit))) (machineState (now (registers .entry)) (now (answers .entry)) (begun .machine))) × (r .left .machine .steps ≤ begun .machine .steps + 3) ⌝ }
     ensures { λ r. ⌜ got 0 (placeAt (now (plate .entry)) (r .next)) ≡ endWith 0 (instruction (phrasesIn (now (book .entry)) (now (own .entry)) count) behind (placeAt (now (plate .entry)) bit)) ⌝ }
 {
     let at = begun.end;

@@ -12,7 +12,7 @@ use transcript_lines::RULED;
 use transcript_lines::SHOWN;
 ghost use mathlib.Core.Path.{_≡_};
 ghost use mathlib.Core.List.{List};
-ghost use Prim.Native.Nat.{_+_, _<_};
+ghost use Prim.Native.Nat.{_+_, _<_, _≤_};
 ghost use lib.IntN.{ℤ};
 ghost use Rattle.output.specs.Pour.{poured};
 ghost use Rattle.phrases.specs.Lookup.{phrasesIn};
@@ -171,7 +171,7 @@ pub fn answer(
     }
 }
 
-// inputs: a question with its options, and then its answer.
+// inputs: a question with its options, and then its answer; after a wrong one both again, as long as there is another try.
 pub fn offer<'a>(
     plate: &[u8],
     bit: usize,
@@ -186,17 +186,38 @@ pub fn offer<'a>(
     at: usize,
     m: Machine,
 ) -> Met
-    requires { ⌜ Lent (now plate) (now index) (now book) (now own) count × (register < 32) × Known (headed (now plate) (phrasesIn (now book) (now own) count) (Inputs register bit)) × (m .steps < 18446744073709551615) ⌝ }
+    requires { ⌜ Lent (now plate) (now index) (now book) (now own) count × (register < 32) × Known (headed (now plate) (phrasesIn (now book) (now own) count) (Inputs register bit)) × (m .steps + 3 ≤ 18446744073709551615) ⌝ }
     ensures { λ r. ⌜ performed (now (registers .exit)) (now (answers .entry)) (r .left) (now (out .exit)) ≡ laid at (leftBy 0 (instructionOf (headed (now (plate .entry)) (phrasesIn (now (book .entry)) (now (own .entry)) count) (Inputs register bit))) (machineState (now (registers .entry)) (now (answers .entry)) m)) (now (out .entry)) ⌝ }
-    ensures { λ r. ⌜ ((s : State) → r .over ≡ overBy 0 (instructionOf (headed (now (plate .entry)) (phrasesIn (now (book .entry)) (now (own .entry)) count) (Inputs register bit))) s) × (r .left .machine .steps ≡ m .steps + 1) ⌝ }
+    ensures { λ r. ⌜ ((s : State) → r .over ≡ overBy 0 (instructionOf (headed (now (plate .entry)) (phrasesIn (now (book .entry)) (now (own .entry)) count) (Inputs register bit))) s) × (r .left .machine .steps ≤ m .steps + 3) ⌝ }
     ensures { λ r. ⌜ got 0 (placeAt (now (plate .entry)) (r .next)) ≡ endWith 0 (headed (now (plate .entry)) (phrasesIn (now (book .entry)) (now (own .entry)) count) (Inputs register bit)) ⌝ }
 {
-    let line = put_choices(plate, bit, index, book, own, count, register, out, at);
-    let left = statements::choose(out, line.end, registers, register, line.options, answers, m);
-    Met {
-        left,
-        over: 0,
-        next: line.next,
+    let mut n = m;
+    let mut end = at;
+    let mut wrong = 0;
+    loop {
+        let line = put_choices(plate, bit, index, book, own, count, register, out, end);
+        let t = statements::choose(
+            out,
+            line.end,
+            registers,
+            register,
+            line.options,
+            wrong,
+            answers,
+            n,
+        );
+        let p = t.left;
+        if t.again {
+            n = p.machine;
+            end = p.end;
+            wrong += 1;
+        } else {
+            return Met {
+                left: p,
+                over: 0,
+                next: line.next,
+            };
+        }
     }
 }
 

@@ -1,3 +1,5 @@
 pub mod Passing
 pub mod Steps
 pub mod Numbered
+pub mod Natural
+pub mod Few

@@ -2,3 +2,5 @@ pub mod Answers
 pub mod Options
 pub mod Performs
 pub mod Rooms
+pub mod Tries
+pub mod Longest

@@ -4,7 +4,6 @@ use mathlib.Core.Path.{_≡_, refl, sym, ap, _∙_}
 use mathlib.Core.List.{List, [], _∷_}
 use lib.ListN.{length, drop}
 use lib.IntN.{ℤ}
-use Rattle.text.specs.Text.{Text}
 use Rattle.output.specs.Pour.{poured}
 use Rattle.transcript.specs.declared.Machine.{Machine}
 use Rattle.transcript.specs.Statement.{Statement, input, inputs, print, printex}
@@ -24,7 +23,7 @@ firstLine (printex t) = ruled t
 -- what it does behind the line
 abbrev pub behindLine : Statement → State → Ending
 behindLine (input r t) s = answer r (s .left) (step s)
-behindLine (inputs r t options) s = choose r (length options) (s .left) (step s)
+behindLine (inputs r t options) s = choose r t options 0 (s .left) (step s)
 behindLine (print t) s = goesOn (step s)
 behindLine (printex t) s = verdict (step s)
 
@@ -32,7 +31,7 @@ module _ (rs answers : List ℤ) (m : Machine) where
   line-first : (x : Statement) → behindEnding (firstLine x ∷ []) (behindLine x (machineState rs answers m)) ≡ perform x (machineState rs answers m)
   unfolding perform machineState
   line-first (input r t) = sym (answer-behind (asked t ∷ []) r (drop (m .taken) answers) (step (machineState rs answers m)))
-  line-first (inputs r t options) = sym (choose-behind (offered t options ∷ []) r (length options) (drop (m .taken) answers) (step (machineState rs answers m)))
+  line-first (inputs r t options) = sym (choose-behind (offered t options ∷ []) r t options 0 (drop (m .taken) answers) (step (machineState rs answers m)))
   line-first (print t) = refl
   line-first (printex t) = refl
 
@@ -41,9 +40,3 @@ module _ (rs answers : List ℤ) (m : Machine) where
       → p ≡ laid y (behindLine x (machineState rs answers m)) mid → length out < 9223372036854775808 → p ≡ laid at (perform x (machineState rs answers m)) out
   lay-perform x p at y out mid e f h =
       f ∙ lay-first (firstLine x) (behindLine x (machineState rs answers m)) at y out mid e h ∙ ap (λ (e : Ending). laid at e out) (line-first x)
-
-  -- the C line, and then what is done with the answer
-  pub lay-offered : (r : ℕ) (t : Text) (options : List Text) (n : ℕ) (p : Laid) (at y : ℕ) (out mid : List ℕ) → (y, mid) ≡ poured at (lineBytes (offered t options)) out
-      → p ≡ laid y (choose r n (machineState rs answers m .left) (step (machineState rs answers m))) mid → n ≡ length options
-      → length out < 9223372036854775808 → p ≡ laid at (perform (inputs r t options) (machineState rs answers m)) out
-  lay-offered r t options n p at y out mid e f q h = lay-perform (inputs r t options) p at y out mid e (rw q at f) h

@@ -1,20 +1,23 @@
 -- How many bytes a statement adds to the transcript: those of its line, and those of the answer that it takes.
-use Prim.Native.Nat.{ℕ, _+_, _*_, _≤_}
+use Prim.Native.Nat.{ℕ, zero, suc, _+_, _-_, _*_, _≤_}
 use native.Mathlib.Omega.{arith}
 use mathlib.Core.Path.{_≡_, refl, ap, _∙_}
 use mathlib.Core.List.{List, [], _∷_, _++_}
 use mathlib.Core.Bool.{Bool, true, false, cond}
 use lib.ListN.{length, length-append}
+use lib.Dec.{ltb}
 use lib.IntN.{ℤ}
+use borrow.Author.Tests.{ltb-true}
+use Rattle.text.specs.Text.{Text}
 use Rattle.text.specs.Parts.{join}
 use Rattle.decimals.proofs.Constants.{decimal-short}
 use Rattle.transcript.specs.Statement.{Statement, input, inputs, print, printex}
 use Rattle.transcript.specs.State.{TranscriptLine, asked, offered, answered, shown, ruled, State, step, writeLine, lineBytes, transcriptBytes}
-use Rattle.transcript.specs.Perform.{goesOn, outside, takeAnswer, isOption, choose, perform, stateOf}
+use Rattle.transcript.specs.Perform.{goesOn, outside, takeAnswer, isOption, takeWrong, offer, choose, perform, stateOf}
 use Rattle.transcript.specs.Perform as perform
 use Rattle.machine.specs.Ranged.{Ranged}
 use Rattle.machine.proofs.Ranges.{ranged-rest}
-use Rattle.machine.proofs.Lay.{bytes-append, bytes-one}
+use Rattle.transcript.proofs.Bytes.{bytes-append, bytes-one}
 use Rattle.statements.proofs.Performs.{firstLine}
 
 -- what the answers still write
@@ -26,7 +29,7 @@ answersRoom (a ∷ rest) = length (lineBytes (answered a)) + answersRoom rest
 abbrev pub stateRoom : State → ℕ
 stateRoom s = length (transcriptBytes (s .transcript)) + answersRoom (s .left)
 
-line-more : (t : List TranscriptLine) (l : TranscriptLine)
+pub line-more : (t : List TranscriptLine) (l : TranscriptLine)
     → length (transcriptBytes (t ++ (l ∷ []))) ≡ length (transcriptBytes t) + length (lineBytes l)
 line-more t l = ap length (bytes-append t (l ∷ [])) ∙ simp (length-append, bytes-one)
 
@@ -34,18 +37,38 @@ answer-room : (r : ℕ) (left : List ℤ) (s : State) → s .left ≡ left → s
 answer-room r [] s e = omega arith
 answer-room r (a ∷ rest) s e = rw e (omega (arith, line-more (s .transcript) (answered a)))
 
-choose-room : (r n : ℕ) (left : List ℤ) (s : State) → s .left ≡ left → stateRoom (stateOf (choose r n left s)) ≤ stateRoom s
-choose-room r n [] s e = omega arith
-choose-room r n (a ∷ rest) s e = go (isOption n a)
-  where
-    go : (v : Bool) → stateRoom (stateOf (cond v (goesOn (takeAnswer r a rest s)) (outside s))) ≤ stateRoom s
-    go true = rw e (omega (arith, line-more (s .transcript) (answered a)))
-    go false = omega arith
+-- a try less
+pub one-less : (wrong l : ℕ) → ltb wrong 2 ≡ true → (2 - wrong) * l ≡ l + (2 - suc wrong) * l
+one-less zero l e = omega arith
+one-less (suc zero) l e = omega arith
+one-less (suc (suc wrong)) l e = absurd (omega (arith, ltb-true (suc (suc wrong)) 2 e))
 
-pub perform-room : (x : Statement) (s : State) → stateRoom (stateOf (perform x s)) ≤ stateRoom s + length (lineBytes (firstLine x))
+-- and the C line again, for each wrong answer that is taken
+choose-room : (r : ℕ) (t : Text) (options : List Text) (wrong : ℕ) (left : List ℤ) (s : State) → s .left ≡ left
+    → stateRoom (stateOf (choose r t options wrong left s)) ≤ stateRoom s + (2 - wrong) * length (lineBytes (offered t options))
+unfolding choose
+choose-room r t options wrong [] s e = omega arith
+choose-room r t options wrong (a ∷ rest) s e =
+    go (isOption (length options) a) (ltb wrong 2) refl (choose-room r t options (suc wrong) rest (offer t options (takeWrong a rest s)) refl)
+  where
+    go : (v w : Bool) → ltb wrong 2 ≡ w
+        → stateRoom (stateOf (choose r t options (suc wrong) rest (offer t options (takeWrong a rest s))))
+        ≤ stateRoom (offer t options (takeWrong a rest s)) + (2 - suc wrong) * length (lineBytes (offered t options))
+        → stateRoom
+        (stateOf (cond v (goesOn (takeAnswer r a rest s)) (cond w (choose r t options (suc wrong) rest (offer t options (takeWrong a rest s))) (outside s))))
+        ≤ stateRoom s + (2 - wrong) * length (lineBytes (offered t options))
+    go true w f h = rw e (omega (arith, line-more (s .transcript) (answered a)))
+    go false true f h =
+        rw e
+        (omega
+        (arith, one-less wrong (length (lineBytes (offered t options))) f, line-more (s .transcript) (answered a), line-more (takeWrong a rest s .transcript) (offered t options)))
+    go false false f h = omega arith
+
+-- at most three times its line, and its answers
+pub perform-room : (x : Statement) (s : State) → stateRoom (stateOf (perform x s)) ≤ stateRoom s + 3 * length (lineBytes (firstLine x))
 unfolding perform
 perform-room (input r t) s = omega (arith, answer-room r (s .left) (writeLine (asked t) (step s)) refl, line-more (s .transcript) (asked t))
-perform-room (inputs r t os) s = omega (arith, choose-room r (length os) (s .left) (writeLine (offered t os) (step s)) refl, line-more (s .transcript) (offered t os))
+perform-room (inputs r t os) s = omega (arith, choose-room r t os 0 (s .left) (offer t os s) refl, line-more (s .transcript) (offered t os))
 perform-room (print t) s = omega (arith, line-more (s .transcript) (shown t))
 perform-room (printex t) s = omega (arith, line-more (s .transcript) (ruled t))
 

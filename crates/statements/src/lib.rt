@@ -1,8 +1,8 @@
 // What each statement does to the machine and to the transcript.
 // A statement takes the machine by value and returns it, with the outcome and the place where the transcript ends; the registers are lent
 // to it. Its contract says the whole answer, the registers and the whole buffer by `perform` (transcript/specs/Perform.antt): a line is stored
-// as far as the buffer goes, and counted to its end. The C line of inputs is written before, and `choose` then takes the answer;
-// a caller that writes another line itself then calls `answer` or `leave`.
+// as far as the buffer goes, and counted to its end. The C line of inputs is written before, and `choose` then makes one try: where it says
+// `again`, the caller writes the C line again and tries once more. A caller that writes another line itself then calls `answer` or `leave`.
 // Any text, any answers and any buffer will do. A register is below 32, and one step more must still fit a 64-bit number.
 use causes::Outcome;
 use machine::stepped;
@@ -14,14 +14,21 @@ use transcript_lines::put_ruled;
 use transcript_lines::put_shown;
 ghost use mathlib.Core.Path.{_≡_};
 ghost use mathlib.Core.List.{List};
-ghost use Prim.Native.Nat.{ℕ, _+_, _<_, _≤_};
-ghost use lib.ListN.{length};
-ghost use lib.IntN.{ℤ};
+ghost use Prim.Native.Nat.{ℕ, suc, _+_, _<_};
+ghost use lib.ListN.{length, drop, getD};
+ghost use lib.IntN.{ℤ, pos};
 ghost use Rattle.transcript.specs.Statement.{input, print, printex};
 ghost use Rattle.transcript.specs.State.{step};
-ghost use Rattle.transcript.specs.Perform.{isOption, perform};
+ghost use Rattle.transcript.specs.Perform.{goesOn, isOption, takeWrong, perform};
+ghost use Rattle.transcript.specs.Tries.{again, tried};
 ghost use Rattle.transcript.specs.Perform as spec;
 ghost use Rattle.transcript.specs.Machine.{machineState, endingBy, laid, performed};
+
+// What a try at inputs leaves, and whether the answer was wrong and another try is left: then the C line is to be written again.
+pub struct Tried {
+    pub left: Performed,
+    pub again: bool,
+}
 
 // A statement left after its step, with no answer taken, no register set and nothing more written.
 pub fn leave(m: Machine, outcome: Outcome, end: usize) -> Performed
@@ -37,7 +44,25 @@ pub fn leave(m: Machine, outcome: Outcome, end: usize) -> Performed
     }
 }
 
-// The next answer, of which there is one, taken: one step, an A line, and the register's value.
+// The next answer, of which there is one, taken as a wrong one is: one step and an A line, and no register is set.
+fn take_wrong(out: &mut [u8], at: usize, answers: &[i32], m: Machine) -> Performed
+    requires { ⌜ (m .taken < length (now answers)) × (m .steps < 18446744073709551615) ⌝ }
+    ensures { λ r. ⌜ ((registers : List ℤ) → performed registers (now (answers .entry)) r (now (out .exit)) ≡ laid at (goesOn (takeWrong (getD (now (answers .entry)) (m .taken) (pos 0)) (drop (suc (m .taken)) (now (answers .entry))) (step (machineState registers (now (answers .entry)) m)))) (now (out .entry))) ⌝ }
+    ensures { λ r. ⌜ r .machine .steps ≡ m .steps + 1 ⌝ }
+{
+    let taken = m.taken;
+    let end = put_answered(out, at, answers[taken]);
+    let mut n = m;
+    n.taken = taken + 1;
+    n.steps = m.steps + 1;
+    Performed {
+        machine: n,
+        outcome: Outcome::End,
+        end,
+    }
+}
+
+// The same, and it becomes the register's value.
 fn take_answer(
     out: &mut [u8],
     at: usize,
@@ -48,20 +73,11 @@ fn take_answer(
 ) -> Performed
     requires { ⌜ (register < 32) × (m .taken < length (now answers)) × (m .steps < 18446744073709551615) ⌝ }
     ensures { λ r. ⌜ performed (now (registers .exit)) (now (answers .entry)) r (now (out .exit)) ≡ laid at (spec.answer register (machineState (now (registers .entry)) (now (answers .entry)) m .left) (step (machineState (now (registers .entry)) (now (answers .entry)) m))) (now (out .entry)) ⌝ }
-    ensures { λ r. ⌜ (r .machine .taken ≡ m .taken + 1) × (r .machine .steps ≡ m .steps + 1) ⌝ }
+    ensures { λ r. ⌜ r .machine .steps ≡ m .steps + 1 ⌝ }
 {
     let taken = m.taken;
-    let v = answers[taken];
-    let end = put_answered(out, at, v);
-    registers[register] = v;
-    let mut n = m;
-    n.taken = taken + 1;
-    n.steps = m.steps + 1;
-    Performed {
-        machine: n,
-        outcome: Outcome::End,
-        end,
-    }
+    registers[register] = answers[taken];
+    take_wrong(out, at, answers, m)
 }
 
 // Whether an answer is the place of one of the options.
@@ -85,12 +101,12 @@ pub fn answer(
 ) -> Performed
     requires { ⌜ (register < 32) × (m .steps < 18446744073709551615) ⌝ }
     ensures { λ r. ⌜ performed (now (registers .exit)) (now (answers .entry)) r (now (out .exit)) ≡ laid at (spec.answer register (machineState (now (registers .entry)) (now (answers .entry)) m .left) (step (machineState (now (registers .entry)) (now (answers .entry)) m))) (now (out .entry)) ⌝ }
-    ensures { λ r. ⌜ (r .machine .steps ≡ m .steps + 1) × (m .taken ≤ length (now (answers .entry)) → r .machine .taken ≤ length (now (answers .entry))) ⌝ }
+    ensures { λ r. ⌜ r .machine .steps ≡ m .steps + 1 ⌝ }
 {
     if m.taken < answers.len() {
         return take_answer(out, at, registers, register, answers, m);
     }
-    leave(m, Outcome::Waiting, at)
+    leave(m, Outcome::Waiting { wrong: 0 }, at)
 }
 
 // input: a question, and then its answer. With no answer left it waits.
@@ -105,34 +121,43 @@ pub fn ask(
 ) -> Performed
     requires { ⌜ (register < 32) × (m .steps < 18446744073709551615) ⌝ }
     ensures { λ r. ⌜ performed (now (registers .exit)) (now (answers .entry)) r (now (out .exit)) ≡ laid at (perform (input register (now (text .entry))) (machineState (now (registers .entry)) (now (answers .entry)) m)) (now (out .entry)) ⌝ }
-    ensures { λ r. ⌜ (r .machine .steps ≡ m .steps + 1) × (m .taken ≤ length (now (answers .entry)) → r .machine .taken ≤ length (now (answers .entry))) ⌝ }
+    ensures { λ r. ⌜ r .machine .steps ≡ m .steps + 1 ⌝ }
 {
     let end = put_asked(out, at, text);
     answer(out, end, registers, register, answers, m)
 }
 
-// inputs, once its C line is written: the answer, taken if it is the place of an option. With no answer left it waits.
+// inputs, once its C line is written, after so many wrong answers to it: the answer, taken if it is the place of an option, or if it is wrong and
+// another try is left. With no answer left it waits.
 pub fn choose(
     out: &mut [u8],
     at: usize,
     registers: &mut [i32; 32],
     register: usize,
     options: usize,
+    wrong: u32,
     answers: &[i32],
     m: Machine,
-) -> Performed
+) -> Tried
     requires { ⌜ (register < 32) × (m .steps < 18446744073709551615) ⌝ }
-    ensures { λ r. ⌜ performed (now (registers .exit)) (now (answers .entry)) r (now (out .exit)) ≡ laid at (spec.choose register options (machineState (now (registers .entry)) (now (answers .entry)) m .left) (step (machineState (now (registers .entry)) (now (answers .entry)) m))) (now (out .entry)) ⌝ }
-    ensures { λ r. ⌜ (r .machine .steps ≡ m .steps + 1) × (m .taken ≤ length (now (answers .entry)) → r .machine .taken ≤ length (now (answers .entry))) ⌝ }
+    ensures { λ r. ⌜ performed (now (registers .exit)) (now (answers .entry)) (r .left) (now (out .exit)) ≡ laid at (tried register options wrong (machineState (now (registers .entry)) (now (answers .entry)) m .left) (step (machineState (now (registers .entry)) (now (answers .entry)) m))) (now (out .entry)) ⌝ }
+    ensures { λ r. ⌜ (r .again ≡ again options wrong (machineState (now (registers .entry)) (now (answers .entry)) m .left)) × (r .left .machine .steps ≡ m .steps + 1) ⌝ }
 {
     let taken = m.taken;
     if taken < answers.len() {
         if is_option(answers[taken], options) {
-            return take_answer(out, at, registers, register, answers, m);
+            let left = take_answer(out, at, registers, register, answers, m);
+            return Tried { left, again: false };
         }
-        return leave(m, Outcome::Outside, at);
+        if wrong < 2 {
+            let left = take_wrong(out, at, answers, m);
+            return Tried { left, again: true };
+        }
+        let left = leave(m, Outcome::Outside, at);
+        return Tried { left, again: false };
     }
-    leave(m, Outcome::Waiting, at)
+    let left = leave(m, Outcome::Waiting { wrong }, at);
+    Tried { left, again: false }
 }
 
 // print: a text shown.

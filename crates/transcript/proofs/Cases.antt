@@ -14,6 +14,7 @@ use Rattle.transcript.specs.declared.Op.{Op}
 use Rattle.transcript.specs.declared.Op.the-variants.{Eq, Ne, Lt, Le, Gt, Ge}
 use Rattle.transcript.specs.Statement.{input, inputs, print, printex, compares}
 use Rattle.transcript.specs.State.{
+  TranscriptLine,
   asked,
   offered,
   answered,
@@ -24,7 +25,7 @@ use Rattle.transcript.specs.State.{
   lineBytes,
   transcriptBytes,
 }
-use Rattle.transcript.specs.Perform.{goesOn, verdict, waits, outside, perform, holds}
+use Rattle.transcript.specs.Perform.{Ending, goesOn, verdict, waits, outside, choose, perform, holds}
 
 -- whether each OP, eq to ge, holds
 abbrev verdicts : ℤ → ℤ → List Bool
@@ -66,10 +67,10 @@ pub letters :
 unfolding transcriptBytes lineBytes join decimal digits
 letters = refl
 
--- a state after one step
-abbrev after : List ℤ → List ℤ → ℕ → List Rattle.transcript.specs.State.TranscriptLine → State
-after registers left taken transcript =
-    record { registers = registers; left = left; taken = taken; steps = 1; transcript = transcript }
+-- a state after so many steps
+abbrev after : List ℤ → List ℤ → ℕ → ℕ → List TranscriptLine → State
+after registers left taken steps transcript =
+    record { registers = registers; left = left; taken = taken; steps = steps; transcript = transcript }
 
 abbrev zeros : List ℤ
 zeros = replicate 32 (pos 0)
@@ -78,30 +79,50 @@ zeros = replicate 32 (pos 0)
 pub statements :
     perform (input 3 (bytes "T")) (start (pos 5 ∷ pos 6 ∷ []))
     ∷ perform (input 3 (bytes "T")) (start [])
-    ∷ perform (inputs 3 (bytes "T") (bytes "a" ∷ bytes "b" ∷ [])) (start (pos 1 ∷ []))
-    ∷ perform (inputs 3 (bytes "T") (bytes "a" ∷ bytes "b" ∷ [])) (start (pos 2 ∷ []))
-    ∷ perform (inputs 3 (bytes "T") (bytes "a" ∷ bytes "b" ∷ [])) (start (negsuc 0 ∷ []))
-    ∷ perform (inputs 3 (bytes "T") (bytes "a" ∷ bytes "b" ∷ [])) (start [])
     ∷ perform (print (bytes "T")) (start (pos 5 ∷ []))
     ∷ perform (printex (bytes "T")) (start (pos 5 ∷ []))
     ∷ []
-    ≡ goesOn (after (set zeros 3 (pos 5)) (pos 6 ∷ []) 1 (asked (bytes "T") ∷ answered (pos 5) ∷ []))
-    ∷ waits (after zeros [] 0 (asked (bytes "T") ∷ []))
-    ∷ goesOn (after (set zeros 3 (pos 1)) [] 1 (offered (bytes "T") (bytes "a" ∷ bytes "b" ∷ []) ∷ answered (pos 1) ∷ []))
-    ∷ outside (after zeros (pos 2 ∷ []) 0 (offered (bytes "T") (bytes "a" ∷ bytes "b" ∷ []) ∷ []))
-    ∷ outside (after zeros (negsuc 0 ∷ []) 0 (offered (bytes "T") (bytes "a" ∷ bytes "b" ∷ []) ∷ []))
-    ∷ waits (after zeros [] 0 (offered (bytes "T") (bytes "a" ∷ bytes "b" ∷ []) ∷ []))
-    ∷ goesOn (after zeros (pos 5 ∷ []) 0 (shown (bytes "T") ∷ []))
-    ∷ verdict (after zeros (pos 5 ∷ []) 0 (ruled (bytes "T") ∷ []))
+    ≡ goesOn (after (set zeros 3 (pos 5)) (pos 6 ∷ []) 1 1 (asked (bytes "T") ∷ answered (pos 5) ∷ []))
+    ∷ waits 0 (after zeros [] 0 1 (asked (bytes "T") ∷ []))
+    ∷ goesOn (after zeros (pos 5 ∷ []) 0 1 (shown (bytes "T") ∷ []))
+    ∷ verdict (after zeros (pos 5 ∷ []) 0 1 (ruled (bytes "T") ∷ []))
     ∷ []
 unfolding perform start
 statements = refl
+
+-- what is left of `inputs,3,T,a,b`, with these answers
+abbrev chosen : List ℤ → Ending
+chosen answers = perform (inputs 3 (bytes "T") (bytes "a" ∷ bytes "b" ∷ [])) (start answers)
+
+abbrev C : TranscriptLine
+C = offered (bytes "T") (bytes "a" ∷ bytes "b" ∷ [])
+
+-- the last option's place, one past it, one below 0; one, two and three wrong answers; the third one is not taken
+pub choices :
+    chosen []
+    ∷ chosen (pos 1 ∷ pos 9 ∷ [])
+    ∷ chosen (pos 2 ∷ [])
+    ∷ chosen (negsuc 0 ∷ pos 0 ∷ [])
+    ∷ chosen (pos 5 ∷ pos 6 ∷ [])
+    ∷ chosen (pos 5 ∷ pos 6 ∷ pos 1 ∷ [])
+    ∷ chosen (pos 5 ∷ pos 6 ∷ pos 7 ∷ pos 1 ∷ [])
+    ∷ []
+    ≡ waits 0 (after zeros [] 0 1 (C ∷ []))
+    ∷ goesOn (after (set zeros 3 (pos 1)) (pos 9 ∷ []) 1 1 (C ∷ answered (pos 1) ∷ []))
+    ∷ waits 1 (after zeros [] 1 2 (C ∷ answered (pos 2) ∷ C ∷ []))
+    ∷ goesOn (after (set zeros 3 (pos 0)) [] 2 2 (C ∷ answered (negsuc 0) ∷ C ∷ answered (pos 0) ∷ []))
+    ∷ waits 2 (after zeros [] 2 3 (C ∷ answered (pos 5) ∷ C ∷ answered (pos 6) ∷ C ∷ []))
+    ∷ goesOn (after (set zeros 3 (pos 1)) [] 3 3 (C ∷ answered (pos 5) ∷ C ∷ answered (pos 6) ∷ C ∷ answered (pos 1) ∷ []))
+    ∷ outside (after zeros (pos 7 ∷ pos 1 ∷ []) 2 3 (C ∷ answered (pos 5) ∷ C ∷ answered (pos 6) ∷ C ∷ []))
+    ∷ []
+unfolding perform choose start
+choices = refl
 
 -- whether register r has the value 5, as an if tests it
 abbrev fiveIn : ℕ → Test
 fiveIn r = record { register = r; op = Eq; constant = pos 5 }
 
 -- with 5 in register 3
-pub tests : map (λ (r : ℕ). holds (fiveIn r) (after (set zeros 3 (pos 5)) [] 1 [])) (0 ∷ 3 ∷ 4 ∷ []) ≡ false ∷ true ∷ false ∷ []
+pub tests : map (λ (r : ℕ). holds (fiveIn r) (after (set zeros 3 (pos 5)) [] 1 1 [])) (0 ∷ 3 ∷ 4 ∷ []) ≡ false ∷ true ∷ false ∷ []
 unfolding holds
 tests = refl

@@ -7,12 +7,12 @@ use Rattle.transcript.specs.Perform.{Ending, goesOn, verdict, waits, out
 pub join : (m : Ending) (f g h : State → Ending) → ((s : State) → f s ≡ andThen (g s) h) → andThen m f ≡ andThen (andThen m g) h
 join (goesOn s) f g h e = e s
 join (verdict s) f g h e = refl
-join (waits s) f g h e = refl
+join (waits k s) f g h e = refl
 join (outside s) f g h e = refl
 
 -- nothing follows
 pub then-nothing : (m : Ending) → andThen m goesOn ≡ m
 then-nothing (goesOn s) = refl
 then-nothing (verdict s) = refl
-then-nothing (waits s) = refl
+then-nothing (waits k s) = refl
 then-nothing (outside s) = refl

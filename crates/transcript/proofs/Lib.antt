@@ -5,3 +5,6 @@ pub mod Steps
 pub mod Waiting
 pub mod Natural
 pub mod Offers
+pub mod Bytes
+pub mod Tries
+pub mod Few

@@ -1,10 +1,12 @@
 -- A statement only adds to the transcript: behind other lines it does the same.
-use Prim.Native.Nat.{ℕ}
+use Prim.Native.Nat.{ℕ, suc}
 use mathlib.Core.Path.{_≡_, refl, ap, _∙_}
 use mathlib.Core.List.{List, [], _∷_, _++_, append-assoc}
 use mathlib.Core.Bool.{Bool, true, false, cond}
 use lib.ListN.{length}
+use lib.Dec.{ltb}
 use lib.IntN.{ℤ}
+use Rattle.text.specs.Text.{Text}
 use Rattle.transcript.specs.declared.Test.{Test}
 use Rattle.transcript.specs.Statement.{Statement, input, inputs, print, printex}
 use Rattle.transcript.specs.State.{TranscriptLine, asked, offered, shown, ruled, State, step, writeLine}
@@ -18,9 +20,12 @@ use Rattle.transcript.specs.Perform.{
   takeAnswer,
   answer,
   isOption,
+  takeWrong,
+  offer,
   choose,
   perform,
   holds,
+  stateOf,
 }
 
 -- a state whose transcript has lines in front
@@ -37,7 +42,7 @@ behind t s =
 abbrev pub behindEnding : List TranscriptLine → Ending → Ending
 behindEnding t (goesOn s) = goesOn (behind t s)
 behindEnding t (verdict s) = verdict (behind t s)
-behindEnding t (waits s) = waits (behind t s)
+behindEnding t (waits wrong s) = waits wrong (behind t s)
 behindEnding t (outside s) = outside (behind t s)
 
 -- what f does adds to the transcript, and does not depend on it
@@ -47,14 +52,14 @@ Natural f = (t : List TranscriptLine) (s : State) → f (behind t s) ≡ behindE
 behind-then : (t : List TranscriptLine) (e : Ending) (f : State → Ending) → Natural f → andThen (behindEnding t e) f ≡ behindEnding t (andThen e f)
 behind-then t (goesOn s) f n = n t s
 behind-then t (verdict s) f n = refl
-behind-then t (waits s) f n = refl
+behind-then t (waits wrong s) f n = refl
 behind-then t (outside s) f n = refl
 
 -- what follows
 pub then-natural : (f g : State → Ending) → Natural f → Natural g → Natural (λ s. andThen (f s) g)
 then-natural f g n k t s = ap (λ (e : Ending). andThen e g) (n t s) ∙ behind-then t (f s) g k
 
-write-behind : (t : List TranscriptLine) (l : TranscriptLine) (s : State) → writeLine l (behind t s) ≡ behind t (writeLine l s)
+pub write-behind : (t : List TranscriptLine) (l : TranscriptLine) (s : State) → writeLine l (behind t s) ≡ behind t (writeLine l s)
 write-behind t l s = rw append-assoc
 
 take-behind : (t : List TranscriptLine) (r : ℕ) (a : ℤ) (rest : List ℤ) (s : State)
@@ -66,15 +71,28 @@ pub answer-behind : (t : List TranscriptLine) (r : ℕ) (left : List ℤ) (s : S
 answer-behind t r [] s = refl
 answer-behind t r (a ∷ rest) s = ap goesOn (take-behind t r a rest s)
 
-pub choose-behind : (t : List TranscriptLine) (r n : ℕ) (left : List ℤ) (s : State)
-    → choose r n left (behind t s) ≡ behindEnding t (choose r n left s)
-choose-behind t r n [] s = refl
-choose-behind t r n (a ∷ rest) s = go (isOption n a)
+-- a wrong answer, and the C line again
+again-behind : (u : List TranscriptLine) (t : Text) (options : List Text) (a : ℤ) (rest : List ℤ) (s : State)
+    → offer t options (takeWrong a rest (behind u s)) ≡ behind u (offer t options (takeWrong a rest s))
+again-behind u t options a rest s = simp append-assoc
+
+pub choose-behind : (u : List TranscriptLine) (r : ℕ) (t : Text) (options : List Text) (wrong : ℕ) (left : List ℤ) (s : State)
+    → choose r t options wrong left (behind u s) ≡ behindEnding u (choose r t options wrong left s)
+unfolding choose
+choose-behind u r t options wrong [] s = refl
+choose-behind u r t options wrong (a ∷ rest) s =
+    go (isOption (length options) a) (ltb wrong 2) (choose-behind u r t options (suc wrong) rest (offer t options (takeWrong a rest s)))
   where
-    go : (v : Bool) → cond v (goesOn (takeAnswer r a rest (behind t s))) (outside (behind t s))
-        ≡ behindEnding t (cond v (goesOn (takeAnswer r a rest s)) (outside s))
-    go true = ap goesOn (take-behind t r a rest s)
-    go false = refl
+    go : (v w : Bool)
+        → choose r t options (suc wrong) rest (behind u (offer t options (takeWrong a rest s)))
+        ≡ behindEnding u (choose r t options (suc wrong) rest (offer t options (takeWrong a rest s)))
+        → cond v (goesOn (takeAnswer r a rest (behind u s)))
+        (cond w (choose r t options (suc wrong) rest (offer t options (takeWrong a rest (behind u s)))) (outside (behind u s)))
+        ≡ behindEnding u
+        (cond v (goesOn (takeAnswer r a rest s)) (cond w (choose r t options (suc wrong) rest (offer t options (takeWrong a rest s))) (outside s)))
+    go true w h = ap goesOn (take-behind u r a rest s)
+    go false true h = ap (choose r t options (suc wrong) rest) (again-behind u t options a rest s) ∙ h
+    go false false h = refl
 
 -- a statement
 pub perform-natural : (x : Statement) → Natural (perform x)
@@ -82,8 +100,7 @@ unfolding perform
 perform-natural (input r t) u s =
     ap (answer r (s .left)) (write-behind u (asked t) (step s)) ∙ answer-behind u r (s .left) (writeLine (asked t) (step s))
 perform-natural (inputs r t options) u s =
-    ap (choose r (length options) (s .left)) (write-behind u (offered t options) (step s))
-    ∙ choose-behind u r (length options) (s .left) (writeLine (offered t options) (step s))
+    ap (choose r t options 0 (s .left)) (write-behind u (offered t options) (step s)) ∙ choose-behind u r t options 0 (s .left) (offer t options s)
 perform-natural (print t) u s = ap goesOn (write-behind u (shown t) (step s))
 perform-natural (printex t) u s = ap verdict (write-behind u (ruled t) (step s))
 
@@ -91,3 +108,11 @@ perform-natural (printex t) u s = ap verdict (write-behind u (ruled t) (step s))
 pub holds-behind : (test : Test) (t : List TranscriptLine) (s : State) → holds test (behind t s) ≡ holds test s
 unfolding holds
 holds-behind test t s = refl
+
+-- ---- so its lines stay in front
+
+pub lines-behind : (t : List TranscriptLine) (e : Ending) → stateOf (behindEnding t e) .transcript ≡ t ++ stateOf e .transcript
+lines-behind t (goesOn s) = refl
+lines-behind t (verdict s) = refl
+lines-behind t (waits wrong s) = refl
+lines-behind t (outside s) = refl

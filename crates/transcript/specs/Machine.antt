@@ -26,7 +26,7 @@ machineState registers answers m =
 abbrev pub endingBy : Outcome → State → Ending
 endingBy Verdict s = verdict s
 endingBy End s = goesOn s
-endingBy Waiting s = waits s
+endingBy (Waiting wrong) s = waits wrong s
 endingBy Outside s = outside s
 
 -- a state whose transcript has been written out
@@ -38,7 +38,7 @@ cleared s =
 abbrev pub clearedEnding : Ending → Ending
 clearedEnding (goesOn s) = goesOn (cleared s)
 clearedEnding (verdict s) = verdict (cleared s)
-clearedEnding (waits s) = waits (cleared s)
+clearedEnding (waits wrong s) = waits wrong (cleared s)
 clearedEnding (outside s) = outside (cleared s)
 
 -- an ending, where its transcript ends, and the buffer that holds it

@@ -21,7 +21,10 @@ fn same_report(a: Report, b: Report) -> bool {
     if a.taken != b.taken {
         return false;
     }
-    a.steps == b.steps
+    if a.steps != b.steps {
+        return false;
+    }
+    causes::wrong_of(first) == causes::wrong_of(second)
 }
 
 // Whether two answers are the same.

@@ -9,11 +9,16 @@ use Rattle.text.specs.Parts.{comma, LF}
 use Rattle.decimals.specs.Number.{decimalℕ}
 use Rattle.vectors_buffer.specs.Sums.{bufferText}
 
--- `Y,LENGTH`, `Y,LENGTH,OUTCOME,TAKEN,STEPS` or `N,NUMBER,PLACE`
+-- `Y,LENGTH`, `Y,LENGTH,OUTCOME,TAKEN,STEPS,WRONG` or `N,NUMBER,PLACE`
 abbrev pub values : Answer → List ℕ
 values (wrote length) = bytes "Y," ++ decimalℕ length
-values (ended length outcome taken steps) =
-    bytes "Y," ++ decimalℕ length ++ (comma ∷ decimalℕ outcome) ++ (comma ∷ decimalℕ taken) ++ (comma ∷ decimalℕ steps)
+values (ended length outcome taken steps wrong) =
+    bytes "Y,"
+    ++ decimalℕ length
+    ++ (comma ∷ decimalℕ outcome)
+    ++ (comma ∷ decimalℕ taken)
+    ++ (comma ∷ decimalℕ steps)
+    ++ (comma ∷ decimalℕ wrong)
 values (refusal number place) = bytes "N," ++ decimalℕ number ++ (comma ∷ decimalℕ place)
 
 -- the whole of the lent output behind a comma, and LF

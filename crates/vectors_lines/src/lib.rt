@@ -7,7 +7,7 @@ use causes::Written;
 use printed::put_labelled;
 ghost use mathlib.Core.Path.{_≡_};
 ghost use Rattle.causes.specs.Answers.{writtenAnswer, ranAnswer, ended, refusing};
-ghost use Rattle.causes.specs.Causes.{outcomeNumber};
+ghost use Rattle.causes.specs.Causes.{outcomeNumber, wrongAnswers};
 ghost use Rattle.output.specs.Pour.{poured};
 ghost use Rattle.vectors_lines.specs.Lines.{values, lentEnd, writtenLine, ranLine};
 
@@ -22,19 +22,21 @@ fn put_refused(out: &mut [u8], at: usize, r: Refusal) -> usize
     put_labelled(out, end, b",", place)
 }
 
-// Y,LENGTH,OUTCOME,TAKEN,STEPS
+// Y,LENGTH,OUTCOME,TAKEN,STEPS,WRONG
 fn put_report(out: &mut [u8], at: usize, r: Report) -> usize
-    ensures { λ x. ⌜ (x, now (out .exit)) ≡ poured at (values (ended (r .length) (outcomeNumber (r .outcome)) (r .taken) (r .steps))) (now (out .entry)) ⌝ }
+    ensures { λ x. ⌜ (x, now (out .exit)) ≡ poured at (values (ended (r .length) (outcomeNumber (r .outcome)) (r .taken) (r .steps) (wrongAnswers (r .outcome)))) (now (out .entry)) ⌝ }
 {
     let length = r.length;
     let outcome = r.outcome;
     let taken = r.taken;
     let steps = r.steps;
     let number = causes::outcome_of(outcome);
+    let wrong = causes::wrong_of(outcome);
     let end = put_labelled(out, at, b"Y,", length);
     let end = put_labelled(out, end, b",", number as usize);
     let end = put_labelled(out, end, b",", taken);
-    put_labelled(out, end, b",", steps)
+    let end = put_labelled(out, end, b",", steps);
+    put_labelled(out, end, b",", wrong as usize)
 }
 
 // The values of an answer of translate, write_plate or read_plate.

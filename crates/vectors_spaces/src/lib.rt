@@ -24,18 +24,18 @@ pub fn book_space() -> [u8; 20000]
     [0; 20000]
 }
 
-// For a lent output of up to 327,680 bytes.
-pub fn lent_space() -> [u8; 327680]
-    ensures { λ r. ⌜ r ≡ replicate 327680 0 ⌝ }
+// For a lent output of up to 918,016 bytes, the longest transcript.
+pub fn lent_space() -> [u8; 918016]
+    ensures { λ r. ⌜ r ≡ replicate 918016 0 ⌝ }
 {
-    [0; 327680]
+    [0; 918016]
 }
 
-// For up to 512 answers.
-pub fn answers_space() -> [i32; 512]
-    ensures { λ r. ⌜ r ≡ replicate 512 (pos 0) ⌝ }
+// For up to 1,536 answers.
+pub fn answers_space() -> [i32; 1536]
+    ensures { λ r. ⌜ r ≡ replicate 1536 (pos 0) ⌝ }
 {
-    [0; 512]
+    [0; 1536]
 }
 
 // For up to 600 numbers of scratch.

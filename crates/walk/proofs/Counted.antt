@@ -5,6 +5,7 @@ use mathlib.Core.Path.{_≡_, ap}
 use mathlib.Core.List.{List, [], _∷_}
 use Rattle.text.specs.Text.{Text}
 use Rattle.phrases.specs.Lookup.{ownTexts}
+use lib.ListN.{length}
 use Rattle.lines.specs.declared.Form.the-variants.{Guide as aGuide}
 use Rattle.lines.specs.declared.Checked.the-variants.{Fine}
 use Rattle.lines.specs.Line.{Line, phrase, says, ifLine, elseLine, fiLine, gotoLine, ifSkipLine, faulty}
@@ -59,3 +60,6 @@ module _ (g : List ℕ) (n : ℕ) (c : Counted g n) where
 
   pub counted-clean : Clean aGuide g
   counted-clean = accepted-clean (c .0) g (c .1) n (c .2)
+
+  pub counted-size : length g ≤ 16384
+  counted-size = accepted .size

@@ -1,6 +1,6 @@
--- The walk of a guide writes no more bytes than the guide has less 4 for each instruction, and 14 for each answer: the line that a
--- statement writes is at least 4 bytes shorter than its line of the guide, of which none is walked twice, the line of an if or an `else` has
--- more than 4 bytes, and an A line has at most 14.
+-- The walk of a guide writes no more bytes than three times those that the guide has less 4 for each instruction, and 14 for each answer: the
+-- line that a statement writes, at most three times, is at least 4 bytes shorter than its line of the guide, of which none is walked twice, the
+-- line of an if or an `else` has more than 4 bytes, and an A line has at most 14.
 use Prim.Native.Nat.{ℕ, zero, suc, _+_, _*_, _≤_, _<_}
 use native.Mathlib.Omega.{arith}
 use mathlib.Core.Path.{_≡_, sym, ap, _∙_}
@@ -10,7 +10,7 @@ use lib.ListN.{length, drop, length-append}
 use lib.IntN.{ℤ}
 use Rattle.causes.specs.Answers.{made, Answer, lent}
 use Rattle.causes.specs.Answers as answer
-use Rattle.causes.specs.Causes.{outcomeNumber}
+use Rattle.causes.specs.Causes.{outcomeNumber, wrongAnswers}
 use Rattle.text.specs.Parts.{split, join, comma, LF}
 use Rattle.text.proofs.Splits.{join-split}
 use Rattle.output.proofs.Poured.{ended}
@@ -34,9 +34,9 @@ use Rattle.walk.proofs.Counted.{lineCount, linesCount, Counted, guide-c
 
 -- ---- what lines still write
 
--- the statement of a line
+-- the statement of a line, with its tries
 abbrev shownByLine : Line → ℕ
-shownByLine (says x) = length (lineBytes (firstLine x))
+shownByLine (says x) = 3 * length (lineBytes (firstLine x))
 shownByLine (phrase t) = 0
 shownByLine (ifLine test) = 0
 shownByLine elseLine = 0
@@ -49,12 +49,12 @@ abbrev shownByLines : List Line → ℕ
 shownByLines [] = 0
 shownByLines (l ∷ ls) = shownByLine l + shownByLines ls
 
--- with 4 bytes for each instruction, what a line of the guide surely has
+-- with 12 bytes for each instruction, what three lines of the guide surely have
 abbrev lineSize : Line → ℕ
-lineSize l = shownByLine l + 4 * lineCount l
+lineSize l = shownByLine l + 12 * lineCount l
 
 abbrev linesSize : List Line → ℕ
-linesSize ls = shownByLines ls + 4 * linesCount ls
+linesSize ls = shownByLines ls + 12 * linesCount ls
 
 -- what k leaves is no more than there was
 abbrev Within : Walker → Type 0
@@ -82,7 +82,7 @@ follow-room : (e : Ending) (ls : List Line) (k : Walker) → Within k
     → stateRoom (stateOf (follow e ls k .ending)) + shownByLines (follow e ls k .lines) ≤ stateRoom (stateOf e) + shownByLines ls
 follow-room (goesOn s) ls k h = h s ls
 follow-room (verdict s) ls k h = omega arith
-follow-room (waits s) ls k h = omega arith
+follow-room (waits wrong s) ls k h = omega arith
 follow-room (outside s) ls k h = omega arith
 
 next-within : (f k : Walker) → Within f → Within k → Within (λ s ls. next (f s ls) k)
@@ -138,7 +138,7 @@ descend-within (suc n) s ls = go (beginsBy (firstRole ls)) (descend-within n)
 
 -- ---- the lines of a guide
 
-read-room : {fs : List (List ℕ)} {l : Line} → ReadAs aGuide fs l → lineSize l ≤ suc (length (join comma fs))
+read-room : {fs : List (List ℕ)} {l : Line} → ReadAs aGuide fs l → lineSize l ≤ 3 * suc (length (join comma fs))
 unfolding join lineBytes
 read-room (as-fault c) = omega arith
 read-room (as-input r h) = simp length-append (omega arith)
@@ -149,31 +149,31 @@ read-room (as-if r o c) = omega arith
 read-room as-else = omega arith
 read-room as-fi = omega arith
 
-line-room : (t : List ℕ) → lineSize (lineOf aGuide t) ≤ suc (length t)
+line-room : (t : List ℕ) → lineSize (lineOf aGuide t) ≤ 3 * suc (length t)
 line-room t = rw join-split at (read-room (line-read-as aGuide t))
 
-parts-room : (ps : List (List ℕ)) → linesSize (linesIn aGuide ps) ≤ length (join LF ps)
+parts-room : (ps : List (List ℕ)) → linesSize (linesIn aGuide ps) ≤ 3 * length (join LF ps)
 unfolding linesIn join
 parts-room [] = omega arith
 parts-room ([] ∷ []) = omega arith
 parts-room ((b ∷ p) ∷ []) = omega arith
 parts-room (p ∷ q ∷ ps) = simp length-append (omega (arith, line-room p, parts-room (q ∷ ps)))
 
-guide-room : (g : List ℕ) → linesSize (linesAt g 0) ≤ length g
+guide-room : (g : List ℕ) → linesSize (linesAt g 0) ≤ 3 * length g
 unfolding linesAt
 guide-room g = omega (arith, parts-room (split LF g), ap length (join-split LF g))
 
 -- ---- the whole walk
 
 text-room : (g : List ℕ) (answers : List ℤ) → Ranged answers
-    → length (transcriptBytes (stateOf (walkText g answers) .transcript)) + 4 * linesCount (linesAt g 0) ≤ length g + 14 * length answers
+    → length (transcriptBytes (stateOf (walkText g answers) .transcript)) + 12 * linesCount (linesAt g 0) ≤ 3 * length g + 14 * length answers
 unfolding walkText start transcriptBytes
 text-room g answers h =
     omega (arith, descend-within (length (linesAt g 0)) (start answers) (linesAt g 0), guide-room g, answers-room answers h)
 
 module _ (g : List ℕ) (answers rs : List ℤ) (p : Performed) (o out : List ℕ) (e : performed rs answers p o ≡ laid 0 (walkText g answers) out) where
   -- a buffer of so many bytes takes it
-  pub text-fits : (n : ℕ) → Counted g n → Ranged answers → length g + 14 * length answers ≤ length out + 4 * n → p .end ≤ length out
+  pub text-fits : (n : ℕ) → Counted g n → Ranged answers → 3 * length g + 14 * length answers ≤ length out + 12 * n → p .end ≤ length out
   text-fits n c h l =
       let new = transcriptBytes (stateOf (walkText g answers) .transcript) in
       omega (arith, ended 0 new out (p .end) o (lay-bytes rs answers p o 0 (walkText g answers) out e), text-room g answers h, guide-counted g n c)
@@ -184,6 +184,6 @@ module _ (g : List ℕ) (answers rs : List ℤ) (p : Performed) (o out : List �
   text-ends us q new old f = ap (λ (l : Laid). l .end) e ∙ sym (ap (λ (l : Laid). l .end) f)
 
   -- and is written whole where it fits
-  pub text-written : (x : Answer) → x ≡ answer.ended (p .end) (outcomeNumber (p .outcome)) (p .machine .taken) (p .machine .steps)
+  pub text-written : (x : Answer) → x ≡ answer.ended (p .end) (outcomeNumber (p .outcome)) (p .machine .taken) (p .machine .steps) (wrongAnswers (p .outcome))
       → p .end ≤ length out → length out < 9223372036854775808 → (x, o) ≡ lent (made (report (walkText g answers))) out
   text-written x d l f = ap (λ (y : Answer). (y, o)) d ∙ whole rs answers (walkText g answers) p o out e rs p o out e l f

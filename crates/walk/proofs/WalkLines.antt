@@ -45,7 +45,7 @@ module _ (k : Walker) where
   unfolding next
   follow-next (goesOn s) ls = refl
   follow-next (verdict s) ls = refl
-  follow-next (waits s) ls = refl
+  follow-next (waits wrong s) ls = refl
   follow-next (outside s) ls = refl
 
   -- k walks the block b, whose lines ls are, up to `rest`
@@ -53,7 +53,7 @@ module _ (k : Walker) where
     follow-block : (e : Ending) → follow e ls k ≡ follow (andThen e b) rest here
     follow-block (goesOn s) = h s
     follow-block (verdict s) = refl
-    follow-block (waits s) = refl
+    follow-block (waits wrong s) = refl
     follow-block (outside s) = refl
 
     -- behind a true block that ends at its `fi`
@@ -61,7 +61,7 @@ module _ (k : Walker) where
     unfolding next leaveTrue
     behind-fi (goesOn s) = h s
     behind-fi (verdict s) = refl
-    behind-fi (waits s) = refl
+    behind-fi (waits wrong s) = refl
     behind-fi (outside s) = refl
 
     -- behind a true block that ends at its `else`
@@ -70,7 +70,7 @@ module _ (k : Walker) where
     unfolding next leaveTrue
     behind-else (goesOn s) os p = rw p (h (step s))
     behind-else (verdict s) os p = refl
-    behind-else (waits s) os p = refl
+    behind-else (waits wrong s) os p = refl
     behind-else (outside s) os p = refl
 
     -- behind an else block
@@ -78,7 +78,7 @@ module _ (k : Walker) where
     unfolding next leaveElse
     behind-second (goesOn s) = h s
     behind-second (verdict s) = refl
-    behind-second (waits s) = refl
+    behind-second (waits wrong s) = refl
     behind-second (outside s) = refl
 
     -- an if without an `else` line, whose true block k walks too

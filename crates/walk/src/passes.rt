@@ -7,7 +7,9 @@ use walk_blocks::block;
 ghost use mathlib.Core.Path.{_≡_};
 ghost use mathlib.Core.List.{List};
 ghost use lib.IntN.{ℤ};
-ghost use Prim.Native.Nat.{ℕ};
+ghost use Prim.Native.Nat.{ℕ, _≤_};
+ghost use lib.ListN.{length};
+ghost use Rattle.causes.specs.Limits.{mostGuideBytes};
 ghost use Rattle.causes.specs.Answers.{made, lent, ranAnswer};
 ghost use Rattle.transcript.specs.Perform.{report};
 ghost use Rattle.transcript.specs.Machine.{laid, performed};
@@ -18,9 +20,10 @@ ghost use Rattle.lines.specs.Answers.{seenIn, checkedAnswer};
 ghost use Rattle.text.specs.Text.{Text};
 ghost use Rattle.walk_blocks.specs.Descend.{walkText};
 
-// The walk over a guide's lines, with registers that are all 0 at first: the buffer takes as much of the transcript as it has room for.
+// The walk over a guide's lines, of which there are few enough that their steps fit, with registers that are all 0 at first: the buffer
+// takes as much of the transcript as it has room for.
 fn produce(guide: &[u8], answers: &[i32], out: &mut [u8]) -> Performed
-    requires { ⌜ Clean aGuide (now guide) ⌝ }
+    requires { ⌜ (length (now guide) ≤ mostGuideBytes) × Clean aGuide (now guide) ⌝ }
     ensures { λ r. ⌜ ((registers : List ℤ) × (performed registers (now (answers .entry)) r (now (out .exit)) ≡ laid 0 (walkText (now (guide .entry)) (now (answers .entry))) (now (out .entry)))) ⌝ }
 {
     let mut registers = [0i32; 32];
@@ -28,7 +31,7 @@ fn produce(guide: &[u8], answers: &[i32], out: &mut [u8]) -> Performed
     w.left
 }
 
-// The walk of a guide that the check accepts, with so many instructions. A buffer as long as the guide, with 4 bytes less for each
+// The walk of a guide that the check accepts, with so many instructions. A buffer three times as long as the guide, with 12 bytes less for each
 // instruction and 14 more for each answer, takes any transcript. Else the walk is made on no buffer first, to learn the transcript's length;
 // then 11, or the transcript is written.
 pub fn write(guide: &[u8], instructions: usize, answers: &[i32], transcript: &mut [u8]) -> Ran
@@ -36,7 +39,7 @@ pub fn write(guide: &[u8], instructions: usize, answers: &[i32], transcript: &mu
     ensures { λ r. ⌜ (ranAnswer r, now (transcript .exit)) ≡ lent (made (report (walkText (now (guide .entry)) (now (answers .entry))))) (now (transcript .entry)) ⌝ }
 {
     if answers.len() <= 65536 {
-        if guide.len() + 14 * answers.len() <= transcript.len() + 4 * instructions {
+        if 3 * guide.len() + 14 * answers.len() <= transcript.len() + 12 * instructions {
             machine::see_answers(answers);
             return machine::report_of(produce(guide, answers, transcript));
         }

@@ -23,7 +23,7 @@ follow-adds : (t : List TranscriptLine) (e : Ending) (ls : List Line) (k : Walke
     → follow (behindEnding t e) ls k ≡ behindLeft t (follow e ls k)
 follow-adds t (goesOn s) ls k h = h t s ls
 follow-adds t (verdict s) ls k h = refl
-follow-adds t (waits s) ls k h = refl
+follow-adds t (waits wrong s) ls k h = refl
 follow-adds t (outside s) ls k h = refl
 
 next-adds : (f k : Walker) → Adds f → Adds k → Adds (λ s ls. next (f s ls) k)

@@ -1,8 +1,8 @@
 -- What the code leaves where a walk goes on, where it has ended, and what follows.
-use Prim.Native.Nat.{ℕ, _+_, _≤_, _<_}
+use Prim.Native.Nat.{ℕ, _≤_, _<_}
 use native.Mathlib.Omega.{arith}
 use mathlib.Core.Path.{_≡_, refl, sym, ap, _∙_, subst}
-use mathlib.Core.List.{List, [], append-nil}
+use mathlib.Core.List.{List, append-nil}
 use mathlib.Core.Bool.{true, false, true≢false, false≢true}
 use lib.ListN.{length, drop}
 use lib.IntN.{ℤ}
@@ -21,7 +21,7 @@ use Rattle.lines.specs.Clean.{Clean}
 use Rattle.guide.specs.Lines.{linesAt}
 use Rattle.walk_blocks.specs.declared.Walked.{Walked}
 use Rattle.walk_blocks.specs.Descend.{Left, Walker, here, follow, next}
-use Rattle.walk_blocks.specs.Leaves.{Leaves, Paced}
+use Rattle.walk_blocks.specs.Leaves.{Leaves, StepsFit, Paced}
 use Rattle.walk_blocks.specs.Says.{isEnd}
 use Rattle.walk_blocks.proofs.Adding.{Adds}
 
@@ -30,7 +30,7 @@ use Rattle.walk_blocks.proofs.Adding.{Adds}
 pub is-end : (k : Outcome) → isEnd k ≡ true → k ≡ End
 is-end Verdict h = absurd (false≢true h)
 is-end End h = refl
-is-end Waiting h = absurd (false≢true h)
+is-end (Waiting wrong) h = absurd (false≢true h)
 is-end Outside h = absurd (false≢true h)
 
 pub not-end : (k : Outcome) → isEnd k ≡ false → k ≡ End → ⊥
@@ -40,7 +40,7 @@ not-end k h e = true≢false (ap isEnd (sym e) ∙ h)
 goes : (e : Ending) → End ≡ outcomeOf e → (s : State) × (e ≡ goesOn s)
 goes (goesOn s) h = (s, refl)
 goes (verdict s) h = absurd (true≢false (ap isEnd h))
-goes (waits s) h = absurd (true≢false (ap isEnd h))
+goes (waits wrong s) h = absurd (true≢false (ap isEnd h))
 goes (outside s) h = absurd (true≢false (ap isEnd h))
 
 -- ---- what follows an ending
@@ -48,19 +48,18 @@ goes (outside s) h = absurd (true≢false (ap isEnd h))
 follow-ending : (e : Ending) (ls : List Line) (k : Walker) → andThen e (λ s. k s ls .ending) ≡ follow e ls k .ending
 follow-ending (goesOn s) ls k = refl
 follow-ending (verdict s) ls k = refl
-follow-ending (waits s) ls k = refl
+follow-ending (waits wrong s) ls k = refl
 follow-ending (outside s) ls k = refl
 
 pub follow-here : (e : Ending) (ls : List Line) → e ≡ follow e ls here .ending
 follow-here (goesOn s) ls = refl
 follow-here (verdict s) ls = refl
-follow-here (waits s) ls = refl
+follow-here (waits wrong s) ls = refl
 follow-here (outside s) ls = refl
 
 -- it goes on at a place
 pub paced-here : (g : List ℕ) (a : ℕ) (w : Walked) (place : ℕ) → w .place ≡ place
-    → w .left .machine .steps + length (linesAt g place) ≤ length (linesAt g 0) → length (linesAt g place) ≤ length (linesAt g a)
-    → place ≤ length g → Clean aGuide (drop place g) → Paced g a w
+    → StepsFit g place (w .left .machine .steps) → length (linesAt g place) ≤ length (linesAt g a) → place ≤ length g → Clean aGuide (drop place g) → Paced g a w
 paced-here g a w place e s k l c =
     let same = ap (λ (n : ℕ). length (linesAt g n)) e in
     record {

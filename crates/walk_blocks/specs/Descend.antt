@@ -26,7 +26,7 @@ here s ls = record { ending = goesOn s; lines = ls }
 abbrev pub follow : Ending → List Line → Walker → Left
 follow (goesOn s) ls k = k s ls
 follow (verdict s) ls k = record { ending = verdict s; lines = [] }
-follow (waits s) ls k = record { ending = waits s; lines = [] }
+follow (waits wrong s) ls k = record { ending = waits wrong s; lines = [] }
 follow (outside s) ls k = record { ending = outside s; lines = [] }
 
 unfoldable pub next : Left → Walker → Left

@@ -1,5 +1,5 @@
 -- What the code answers for a block, beside what the walk over its lines says.
-use Prim.Native.Nat.{ℕ, _+_, _≤_}
+use Prim.Native.Nat.{ℕ, _+_, _*_, _≤_}
 use mathlib.Core.Path.{_≡_}
 use mathlib.Core.List.{List}
 use lib.ListN.{length, drop}
@@ -22,9 +22,13 @@ pub record Leaves (g : List ℕ) (answers : List ℤ) (w : Walked) (registers : 
 abbrev pub LeavesFrom : List ℕ → ℕ → List ℤ → Walked → List ℤ → List ℕ → ℕ → (ℕ → Left) → List ℕ → Type 0
 LeavesFrom g a answers w registers new at f old = (n : ℕ) → length (linesAt g a) ≤ n → Leaves g answers w registers new at (f n) old
 
--- no more steps than lines passed, no more lines left than from the place a on, and none of them a fault
+-- the steps, with three more for each line from the place a on, fit a 64-bit number
+abbrev pub StepsFit : List ℕ → ℕ → ℕ → Type 0
+StepsFit g a steps = steps + 3 * length (linesAt g a) ≤ 18446744073709551615
+
+-- the steps fit, no more lines are left than from the place a on, and none of them is a fault
 pub record Paced (g : List ℕ) (a : ℕ) (w : Walked) : Type 0 where
-  pub steps : w .left .machine .steps + length (linesAt g (w .place)) ≤ length (linesAt g 0)
+  pub steps : StepsFit g (w .place) (w .left .machine .steps)
   pub lines : length (linesAt g (w .place)) ≤ length (linesAt g a)
   pub within : w .place ≤ length g
   pub clean : Clean aGuide (drop (w .place) g)

@@ -42,5 +42,5 @@ Says (head.Faulty c) fs = ⊥
 abbrev pub isEnd : Outcome → Bool
 isEnd Verdict = false
 isEnd End = true
-isEnd Waiting = false
+isEnd (Waiting wrong) = false
 isEnd Outside = false

@@ -12,7 +12,7 @@ use transcript::Machine;
 ghost use mathlib.Core.Path.{_≡_};
 ghost use mathlib.Core.Bool.{true, false};
 ghost use mathlib.Core.List.{_∷_};
-ghost use Prim.Native.Nat.{_+_, _≤_, _<_};
+ghost use Prim.Native.Nat.{_+_, _≤_};
 ghost use lib.ListN.{length, drop};
 ghost use Rattle.lines.specs.declared.Form.the-variants.{Guide as aGuide};
 ghost use Rattle.lines.specs.Line.{lineOf};
@@ -20,7 +20,7 @@ ghost use Rattle.lines.specs.Clean.{Clean};
 ghost use Rattle.transcript.specs.Machine.{machineState};
 ghost use Rattle.guide.specs.Lines.{beginsBy, linesAt, lineText, Stands};
 ghost use Rattle.walk_blocks.specs.Descend.{walkIf, statementWith, descend};
-ghost use Rattle.walk_blocks.specs.Leaves.{LeavesFrom, Paced};
+ghost use Rattle.walk_blocks.specs.Leaves.{LeavesFrom, StepsFit, Paced};
 
 // The block that begins at a, up to its else, its fi or the end.
 pub fn block(
@@ -32,7 +32,7 @@ pub fn block(
     at: usize,
     begun: Machine,
 ) -> Walked
-    requires { ⌜ (a ≤ length (now guide)) × (begun .steps + length (linesAt (now guide) a) ≤ length (linesAt (now guide) 0)) × Clean aGuide (drop a (now guide)) ⌝ }
+    requires { ⌜ (a ≤ length (now guide)) × StepsFit (now guide) a (begun .steps) × Clean aGuide (drop a (now guide)) ⌝ }
     ensures { λ w. ⌜ LeavesFrom (now (guide .entry)) a (now (answers .entry)) w (now (registers .exit)) (now (out .exit)) at (λ n. descend n (machineState (now (registers .entry)) (now (answers .entry)) begun) (linesAt (now (guide .entry)) a)) (now (out .entry)) ⌝ }
     ensures { λ w. ⌜ Paced (now (guide .entry)) a w ⌝ }
 {
@@ -68,7 +68,7 @@ fn statement(
     at: usize,
     m: Machine,
 ) -> Walked
-    requires { ⌜ Stands (now guide) h × (beginsBy (h .role) ≡ true) × (m .steps + length (linesAt (now guide) (h .next)) < length (linesAt (now guide) 0)) × Clean aGuide (drop (h .next) (now guide)) ⌝ }
+    requires { ⌜ Stands (now guide) h × (beginsBy (h .role) ≡ true) × StepsFit (now guide) (h .next) (m .steps + 3) × Clean aGuide (drop (h .next) (now guide)) ⌝ }
     ensures { λ w. ⌜ LeavesFrom (now (guide .entry)) (h .next) (now (answers .entry)) w (now (registers .exit)) (now (out .exit)) at (λ n. statementWith (descend n) (machineState (now (registers .entry)) (now (answers .entry)) m) (lineOf aGuide (lineText (now (guide .entry)) h) ∷ linesAt (now (guide .entry)) (h .next))) (now (out .entry)) ⌝ }
     ensures { λ w. ⌜ Paced (now (guide .entry)) (h .next) w ⌝ }
 {
@@ -99,7 +99,7 @@ fn true_block(
     at: usize,
     m: Machine,
 ) -> Walked
-    requires { ⌜ (a ≤ length (now guide)) × (m .steps + length (linesAt (now guide) a) ≤ length (linesAt (now guide) 0)) × Clean aGuide (drop a (now guide)) ⌝ }
+    requires { ⌜ (a ≤ length (now guide)) × StepsFit (now guide) a (m .steps) × Clean aGuide (drop a (now guide)) ⌝ }
     ensures { λ w. ⌜ LeavesFrom (now (guide .entry)) a (now (answers .entry)) w (now (registers .exit)) (now (out .exit)) at (λ n. walkIf true (descend n) (machineState (now (registers .entry)) (now (answers .entry)) m) (linesAt (now (guide .entry)) a)) (now (out .entry)) ⌝ }
     ensures { λ w. ⌜ Paced (now (guide .entry)) a w ⌝ }
 {
@@ -122,7 +122,7 @@ fn no_block(
     at: usize,
     m: Machine,
 ) -> Walked
-    requires { ⌜ (a ≤ length (now guide)) × (m .steps + length (linesAt (now guide) a) ≤ length (linesAt (now guide) 0)) × Clean aGuide (drop a (now guide)) ⌝ }
+    requires { ⌜ (a ≤ length (now guide)) × StepsFit (now guide) a (m .steps) × Clean aGuide (drop a (now guide)) ⌝ }
     ensures { λ w. ⌜ LeavesFrom (now (guide .entry)) a (now (answers .entry)) w (now (registers .exit)) (now (out .exit)) at (λ n. walkIf false (descend n) (machineState (now (registers .entry)) (now (answers .entry)) m) (linesAt (now (guide .entry)) a)) (now (out .entry)) ⌝ }
     ensures { λ w. ⌜ Paced (now (guide .entry)) a w ⌝ }
 {

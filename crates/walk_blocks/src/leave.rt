@@ -5,7 +5,7 @@ use transcript::Machine;
 use transcript::Performed;
 ghost use mathlib.Core.Path.{_≡_};
 ghost use mathlib.Core.List.{List};
-ghost use Prim.Native.Nat.{ℕ, _+_, _≤_};
+ghost use Prim.Native.Nat.{ℕ, _≤_};
 ghost use lib.ListN.{length, drop};
 ghost use lib.IntN.{ℤ};
 ghost use Rattle.transcript.specs.Machine.{machineState};
@@ -13,7 +13,7 @@ ghost use Rattle.lines.specs.declared.Form.the-variants.{Guide as aGuide};
 ghost use Rattle.lines.specs.Clean.{Clean};
 ghost use Rattle.guide.specs.Lines.{linesAt};
 ghost use Rattle.walk_blocks.specs.Descend as descend;
-ghost use Rattle.walk_blocks.specs.Leaves.{Leaves, Paced};
+ghost use Rattle.walk_blocks.specs.Leaves.{Leaves, StepsFit, Paced};
 ghost use Rattle.walk_blocks.specs.Says.{isEnd};
 
 // Whether a walk goes on.
@@ -24,7 +24,7 @@ pub fn goes_on(p: Performed) -> bool
     match outcome {
         Outcome::Verdict => false,
         Outcome::End => true,
-        Outcome::Waiting => false,
+        Outcome::Waiting { .. } => false,
         Outcome::Outside => false,
     }
 }
@@ -44,7 +44,7 @@ pub fn here(m: Machine, end: usize, place: usize) -> Walked
 
 // Behind a true block that ends at a: with an else line one step, and the else block is passed over.
 pub fn leave_true(guide: &[u8], a: usize, end: usize, m: Machine) -> Walked
-    requires { ⌜ (a ≤ length (now guide)) × (m .steps + length (linesAt (now guide) a) ≤ length (linesAt (now guide) 0)) × Clean aGuide (drop a (now guide)) ⌝ }
+    requires { ⌜ (a ≤ length (now guide)) × StepsFit (now guide) a (m .steps) × Clean aGuide (drop a (now guide)) ⌝ }
     ensures { λ r. ⌜ ((registers answers : List ℤ) (out : List ℕ) → Leaves (now (guide .entry)) answers r registers out end (descend.leaveTrue (machineState registers answers m) (linesAt (now (guide .entry)) a)) out) ⌝ }
     ensures { λ r. ⌜ Paced (now (guide .entry)) a r ⌝ }
 {
@@ -60,7 +60,7 @@ pub fn leave_true(guide: &[u8], a: usize, end: usize, m: Machine) -> Walked
 
 // Behind an else block that ends at a.
 pub fn leave_else(guide: &[u8], a: usize, end: usize, m: Machine) -> Walked
-    requires { ⌜ (a ≤ length (now guide)) × (m .steps + length (linesAt (now guide) a) ≤ length (linesAt (now guide) 0)) × Clean aGuide (drop a (now guide)) ⌝ }
+    requires { ⌜ (a ≤ length (now guide)) × StepsFit (now guide) a (m .steps) × Clean aGuide (drop a (now guide)) ⌝ }
     ensures { λ r. ⌜ ((registers answers : List ℤ) (out : List ℕ) → Leaves (now (guide .entry)) answers r registers out end (descend.leaveElse (machineState registers answers m) (linesAt (now (guide .entry)) a)) out) ⌝ }
     ensures { λ r. ⌜ Paced (now (guide .entry)) a r ⌝ }
 {

@@ -4,7 +4,7 @@ use transcript::Machine;
 use transcript::Performed;
 ghost use mathlib.Core.Path.{_≡_};
 ghost use mathlib.Core.List.{[]};
-ghost use Prim.Native.Nat.{_+_, _<_};
+ghost use Prim.Native.Nat.{_+_, _<_, _≤_};
 ghost use lib.ListN.{length, drop, getD};
 ghost use Rattle.text.specs.Parts.{split, comma};
 ghost use Rattle.output.specs.Pour.{poured};
@@ -24,7 +24,7 @@ fn put_choices(line: &[u8], out: &mut [u8], at: usize) -> usize
     transcript_lines::put_offered(out, at, &line[a..])
 }
 
-// inputs: the question with its options, and then the answer.
+// inputs: the question with its options, and the answer; after a wrong one both again, as long as there is another try.
 fn offer(
     line: &[u8],
     register: usize,
@@ -35,12 +35,25 @@ fn offer(
     at: usize,
     m: Machine,
 ) -> Performed
-    requires { ⌜ (register < 32) × (options ≡ length (drop 3 (split comma (now line)))) × (0 < options) × (m .steps < 18446744073709551615) ⌝ }
+    requires { ⌜ (register < 32) × (options ≡ length (drop 3 (split comma (now line)))) × (0 < options) × (m .steps + 3 ≤ 18446744073709551615) ⌝ }
     ensures { λ r. ⌜ performed (now (registers .exit)) (now (answers .entry)) r (now (out .exit)) ≡ laid at (statement.perform (inputs register (getD (split comma (now (line .entry))) 2 []) (drop 3 (split comma (now (line .entry))))) (machineState (now (registers .entry)) (now (answers .entry)) m)) (now (out .entry)) ⌝ }
-    ensures { λ r. ⌜ r .machine .steps ≡ m .steps + 1 ⌝ }
+    ensures { λ r. ⌜ r .machine .steps ≤ m .steps + 3 ⌝ }
 {
-    let end = put_choices(line, out, at);
-    statements::choose(out, end, registers, register, options, answers, m)
+    let mut n = m;
+    let mut end = at;
+    let mut wrong = 0;
+    loop {
+        let behind = put_choices(line, out, end);
+        let t = statements::choose(out, behind, registers, register, options, wrong, answers, n);
+        let p = t.left;
+        if t.again {
+            n = p.machine;
+            end = p.end;
+            wrong += 1;
+        } else {
+            return p;
+        }
+    }
 }
 
 // The statement of a line with this head.
@@ -53,9 +66,9 @@ pub fn perform(
     at: usize,
     m: Machine,
 ) -> Performed
-    requires { ⌜ Says head (split comma (now line)) × Heads head (now line) × (m .steps < 18446744073709551615) ⌝ }
+    requires { ⌜ Says head (split comma (now line)) × Heads head (now line) × (m .steps + 3 ≤ 18446744073709551615) ⌝ }
     ensures { λ r. ⌜ performed (now (registers .exit)) (now (answers .entry)) r (now (out .exit)) ≡ laid at (statement.perform (statementBy head (split comma (now (line .entry)))) (machineState (now (registers .entry)) (now (answers .entry)) m)) (now (out .entry)) ⌝ }
-    ensures { λ r. ⌜ r .machine .steps ≡ m .steps + 1 ⌝ }
+    ensures { λ r. ⌜ r .machine .steps ≤ m .steps + 3 ⌝ }
 {
     match head {
         Head::Input { register } => {

@@ -4,7 +4,7 @@ use mathlib.Core.Logic.{_↔_}
 use mathlib.Core.List.{List}
 use mathlib.Core.Bool.{Bool, true, false}
 use lib.IntN.{ℤ}
-use Rattle.causes.specs.declared.Outcome.the-variants.{Waiting}
+use Rattle.causes.specs.Causes.{outcomeNumber}
 use Rattle.transcript.specs.State.{State, step, start}
 use Rattle.transcript.specs.Perform.{Ending, goesOn, andThen, perform, holds, stateOf, outcomeOf}
 use Rattle.transcript.specs.Waiting.{endsAsking, Unanswered}
@@ -32,6 +32,6 @@ walk-told (ifElse test t e b) s h =
     (walk-told b)
 
 pub walk-waits : (b : Block) (answers : List ℤ)
-    → (outcomeOf (walk b (start answers)) ≡ Waiting) ↔ Unanswered (stateOf (walk b (start answers)))
+    → (outcomeNumber (outcomeOf (walk b (start answers))) ≡ 2) ↔ Unanswered (stateOf (walk b (start answers)))
 unfolding start endsAsking
 walk-waits b answers = told-waits (walk b (start answers)) (walk-told b (start answers) refl)

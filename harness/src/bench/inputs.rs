@@ -137,6 +137,11 @@ pub fn questions(count: usize) -> Vec<u8> {
     "input,0,a\n".repeat(count).into_bytes()
 }
 
+/// So many lines inputs,0,a,b,c.
+pub fn choices(count: usize) -> Vec<u8> {
+    "inputs,0,a,b,c\n".repeat(count).into_bytes()
+}
+
 /// 400 ifs without a block, each second one with a constant of 32 bits, which is near all that a plate holds.
 pub fn tests() -> Vec<u8> {
     "if,0,eq,0\nfi\nif,0,eq,100000\nfi\n".repeat(200).into_bytes()

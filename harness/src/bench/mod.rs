@@ -17,8 +17,8 @@ use model::vectors::Call;
 /// The calls that take a listing or its plate, where own phrases may stand.
 pub const OF_LISTING: [Call; 3] = [Call::WritePlate, Call::ReadPlate, Call::Run];
 
-/// Room for the longest result.
-const MOST: usize = 327_680;
+/// Room for the longest result, which is a transcript.
+const MOST: usize = 918_016;
 
 /// A guide, a listing, a book and answers.
 pub struct Subject {

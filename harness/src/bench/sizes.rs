@@ -18,6 +18,7 @@ book     an empty guide with that full book: the check of the book alone
 phrases  512 instructions of every kind, whose texts are phrases of 8 bytes of a book of 40
 lines    512 lines print,a, and their plate, empty book
 asked    512 lines input,0,a, and their plate, empty book
+tries    256 lines inputs,0,a,b,c, and their plate, each with two wrong answers and a right one, empty book
 tests    400 ifs without a block, half of them with a constant of 32 bits, empty book
 own      a listing of 32 own phrases of 13 bytes and 400 prints of them, and its plate, empty book
 plate    the plate of 2,953 bytes of spelled texts, empty book
@@ -31,7 +32,7 @@ pub struct Size {
     pub calls: &'static [Call],
 }
 
-pub const ALL: [Size; 14] = [
+pub const ALL: [Size; 15] = [
     Size { name: "small", subject: small, calls: &Call::ALL },
     Size { name: "middle", subject: middle, calls: &Call::ALL },
     Size { name: "large", subject: guide, calls: &[Call::Translate, Call::Walk] },
@@ -41,6 +42,7 @@ pub const ALL: [Size; 14] = [
     Size { name: "phrases", subject: phrases, calls: &Call::ALL },
     Size { name: "lines", subject: short, calls: &Call::ALL },
     Size { name: "asked", subject: asked, calls: &Call::ALL },
+    Size { name: "tries", subject: tries, calls: &[Call::Walk, Call::Run] },
     Size { name: "tests", subject: ifs, calls: &Call::ALL },
     Size { name: "own", subject: own, calls: &OF_LISTING },
     Size { name: "plate", subject: plate, calls: &OF_LISTING },
@@ -97,6 +99,10 @@ fn short() -> Subject {
 
 fn asked() -> Subject {
     Subject::of_guide(questions(MAX_INSTRUCTIONS), Vec::new(), zeros())
+}
+
+fn tries() -> Subject {
+    Subject::of_guide(choices(256), Vec::new(), [2, -1, 1].repeat(256))
 }
 
 fn ifs() -> Subject {

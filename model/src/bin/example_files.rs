@@ -9,6 +9,7 @@
 
 use model::examples::{Example, GUIDES};
 use model::show::plateshow;
+use model::Record;
 use std::path::Path;
 use std::process::ExitCode;
 use std::{env, fs};
@@ -17,7 +18,18 @@ const USAGE: &str = "usage: example_files [--check] DIR";
 
 /// The lists of answers of each guide.
 const ANSWERS: [(&str, &[&[i32]]); 8] = [
-    ("breaker-open", &[&[0], &[1, 0], &[1, 1, 0, 1, 1], &[1, 1, 0, 0, 90], &[1, 1, 4]]),
+    (
+        "breaker-open",
+        &[
+            &[0],
+            &[1, 0],
+            &[1, 1, 0, 1, 1],
+            &[1, 1, 0, 0, 90],
+            &[1, 1, 4],
+            &[1, 1, 4, -1, 0, 0, 90],
+            &[1, 1, 4, -1, 5, 0],
+        ],
+    ),
     (
         "ct-open",
         &[
@@ -32,7 +44,18 @@ const ANSWERS: [(&str, &[&[i32]]); 8] = [
     ("incident", &[&[110, 1, 200], &[110, 0], &[110, 1, 5000], &[90, 0], &[110]]),
     ("reclose-lockout", &[&[0, 0], &[1, 1, 1, 0, 0], &[4, 1, 3], &[2, 1, 3, 1], &[0, 1, 3, 1]]),
     ("sf6-low", &[&[600, 20], &[520, 20, 1], &[520, -30, 0], &[450, 10, 0], &[450, 10]]),
-    ("town-names", &[&[33, 0, 1], &[33, 0, 0], &[11, 1, 3], &[11, 1, 20], &[33, 2], &[33, 3]]),
+    (
+        "town-names",
+        &[
+            &[33, 0, 1],
+            &[33, 0, 0],
+            &[11, 1, 3],
+            &[11, 1, 20],
+            &[33, 2],
+            &[33, 3, 2],
+            &[33, 3, 3, 3],
+        ],
+    ),
     ("trip-coil", &[&[90, 120], &[145], &[110, 0], &[110, 1, 2000], &[110, 1, 200, 1]]),
 ];
 
@@ -75,8 +98,9 @@ fn runs(example: &Example, lists: &[&[i32]]) -> String {
         let list: String = answers.iter().map(|answer| format!(",{answer}")).collect();
         text += &format!("answers{list}\n");
         text += &String::from_utf8_lossy(&record.transcript);
-        let (outcome, taken, steps) = (record.outcome as u32, record.taken, record.steps);
-        text += &format!("outcome,{outcome},taken,{taken},steps,{steps}\n");
+        let Record { outcome, taken, steps, wrong, .. } = record;
+        let outcome = outcome as u32;
+        text += &format!("outcome,{outcome},taken,{taken},steps,{steps},wrong,{wrong}\n");
     }
     text
 }

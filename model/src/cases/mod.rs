@@ -16,6 +16,7 @@ pub mod shared;
 pub mod sizes;
 pub mod steps;
 pub mod texts;
+pub mod tries;
 pub mod utf8;
 pub mod widths;
 

@@ -12,6 +12,7 @@ pub struct RecordCase {
     pub outcome: u32,
     pub taken: usize,
     pub steps: usize,
+    pub wrong: u32,
 }
 
 pub type RecordGroup = (&'static str, fn() -> Vec<RecordCase>);
@@ -22,13 +23,25 @@ pub const GROUPS: &[RecordGroup] = &[
     ("comparisons", comparisons),
     ("registers_kept", registers_kept),
     ("letters", letters),
+    ("tries", super::tries::tries),
+    ("tries_at_each_point", super::tries::at_each_point),
+    ("tries_of_each_question", super::tries::of_each_question),
+    ("tries_and_blocks", super::tries::and_blocks),
     ("steps", super::steps::steps),
     ("jumps", super::steps::jumps),
     ("longest_transcripts", super::steps::longest_transcripts),
 ];
 
-/// Outcome, answers taken and steps.
+/// Outcome, answers taken and steps. With outcome 3 there are 3 wrong answers; else
+/// there are none, but for a wait that [`RecordCase::wrong`] says so of.
 pub type Ends = (u32, usize, usize);
+
+impl RecordCase {
+    /// The same, a wait after so many wrong answers to its question.
+    pub fn wrong(self, wrong: u32) -> RecordCase {
+        RecordCase { wrong, ..self }
+    }
+}
 
 pub fn guide(input: &str, book: &str, answers: &[i32], transcript: &str, ends: Ends) -> RecordCase {
     let (outcome, taken, steps) = ends;
@@ -41,6 +54,7 @@ pub fn guide(input: &str, book: &str, answers: &[i32], transcript: &str, ends: E
         outcome,
         taken,
         steps,
+        wrong: if outcome == 3 { 3 } else { 0 },
     }
 }
 
@@ -102,7 +116,12 @@ fn choices() -> Vec<RecordCase> {
             cases.push(guide(&input, "", &[answer, 0], &transcript, (1, 1, 2)));
         }
         for answer in [-1, last + 1, last + 2, i32::MIN, i32::MAX, 256, 1 << 16] {
-            cases.push(guide(&input, "", &[answer, 0], &question, (3, 0, 1)));
+            let again = format!("{question}A,{answer}\n{question}");
+            let right = format!("{again}A,0\nS,z\n");
+            cases.push(guide(&input, "", &[answer, 0], &right, (1, 2, 3)));
+            cases.push(guide(&input, "", &[answer], &again, (2, 1, 2)).wrong(1));
+            let third = format!("{again}A,{answer}\n{question}");
+            cases.push(guide(&input, "", &[answer, answer, answer, 0], &third, (3, 2, 3)));
         }
         cases.push(guide(&input, "", &[], &question, (2, 0, 1)));
     }
@@ -110,10 +129,11 @@ fn choices() -> Vec<RecordCase> {
     let start = "Q,n\nA,7\nC,Pick,a,b\n";
     let one = format!("{start}A,1\nV,one\n");
     let zero = format!("{start}A,0\nS,zero\n");
+    let outside = format!("{start}A,2\nC,Pick,a,b\nA,-1\nC,Pick,a,b\n");
     cases.extend([
         guide(input, "b\n", &[7, 1], &one, (0, 2, 4)),
         guide(input, "b\n", &[7, 0], &zero, (1, 2, 4)),
-        guide(input, "b\n", &[7, 2, 0], start, (3, 1, 2)),
+        guide(input, "b\n", &[7, 2, -1, 2, 0], &outside, (3, 3, 4)),
         guide(input, "b\n", &[7], start, (2, 1, 2)),
     ]);
     cases
@@ -165,7 +185,8 @@ fn registers_kept() -> Vec<RecordCase> {
         guide(two, "", &[20, 10], "Q,a\nA,20\nQ,b\nA,10\n", (1, 2, 4)),
         guide(again, "", &[10, 20], "Q,a\nA,10\nQ,b\nA,20\nS,c\n", (1, 2, 4)),
         guide(again, "", &[20, 10], "Q,a\nA,20\nQ,b\nA,10\n", (1, 2, 3)),
-        guide(wrong, "", &[3, 3], "Q,a\nA,3\nC,b,c,d\n", (3, 1, 3)),
+        guide(wrong, "", &[3, 3], "Q,a\nA,3\nC,b,c,d\nA,3\nC,b,c,d\n", (2, 2, 4)).wrong(1),
+        guide(wrong, "", &[3, 3, 0], "Q,a\nA,3\nC,b,c,d\nA,3\nC,b,c,d\nA,0\nS,e\n", (1, 3, 5)),
     ]
 }
 

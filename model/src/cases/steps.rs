@@ -9,6 +9,7 @@ pub fn steps() -> Vec<RecordCase> {
     let [holds, fails] = ["if,0,eq,0\n", "if,0,ne,0\n"];
     let deep = format!("{holds}{}else\nfi\n", "{}");
     let deep = (0..16).fold("print,a\n".to_owned(), |inner, _| deep.replace("{}", &inner));
+    let outside = "C,q,a,b\nA,2\n".repeat(2) + "C,q,a,b\n";
     let case = |parts: &[&str], answers: &[i32], transcript, ends| {
         guide(&parts.concat(), "", answers, transcript, ends)
     };
@@ -31,7 +32,7 @@ pub fn steps() -> Vec<RecordCase> {
         case(&[holds, "printex,v\nelse\nprint,b\nfi\n"], &[], "V,v\n", (0, 0, 2)),
         case(&[holds, "input,1,q\nelse\nfi\n"], &[], "Q,q\n", (2, 0, 2)),
         case(&[holds, "input,1,q\nelse\nfi\n"], &[5], "Q,q\nA,5\n", (1, 1, 3)),
-        case(&[holds, "inputs,1,q,a,b\nelse\nfi\n"], &[2], "C,q,a,b\n", (3, 0, 2)),
+        case(&[holds, "inputs,1,q,a,b\nelse\nfi\n"], &[2, 2, 2], &outside, (3, 2, 4)),
         case(&[fails, "else\nprintex,v\nfi\nprint,b\n"], &[], "V,v\n", (0, 0, 2)),
         case(&[&deep], &[], "S,a\n", (1, 0, 33)),
         case(&[&"print,a\n".repeat(512)], &[], &"S,a\n".repeat(512), (1, 0, 512)),
@@ -62,16 +63,34 @@ pub fn jumps() -> Vec<RecordCase> {
     ]
 }
 
-/// The longest transcripts: 20,480 bytes of a guide, 302,592 of a plate.
+/// The longest transcripts: 54,784 bytes of a guide, 918,016 of a plate, 512 times two
+/// wrong answers and a right one; and those without a wrong answer, 20,480 of a guide and
+/// 302,592 of a plate.
 pub fn longest_transcripts() -> Vec<RecordCase> {
     let question = text(23);
     let lines = format!("input,0,{question}\n").repeat(512);
     let record = format!("Q,{question}\nA,-2147483648\n").repeat(512);
     let of_guide = guide(&lines, &(text(23) + "\n"), &[i32::MIN; 512], &record, (1, 512, 512));
     let inputs = format!(" 001 31:5 10 6:3{}", " 10".repeat(8)).repeat(512);
-    let record = longest_line().replace("inputs,31", "C") + "A,7\n";
+    let notation = format!("0 512:10{inputs}");
+    let asked = longest_line().replace("inputs,31", "C");
     let book = String::from_utf8(one_long_phrase()).expect("letters");
-    let of_plate =
-        plate(&format!("0 512:10{inputs}"), &book, &[7; 512], &record.repeat(512), (1, 512, 512));
-    vec![of_guide, of_plate]
+    let record = (asked.clone() + "A,7\n").repeat(512);
+    let of_plate = plate(&notation, &book, &[7; 512], &record, (1, 512, 512));
+    let answers = [i32::MIN, i32::MIN, 7].repeat(512);
+    let wrong = (asked.clone() + "A,-2147483648\n").repeat(2);
+    let record = (wrong + &asked + "A,7\n").repeat(512);
+    let with_tries = plate(&notation, &book, &answers, &record, (1, 1_536, 1_536));
+    vec![of_guide, guide_with_tries(), of_plate, with_tries]
+}
+
+/// A guide of 16,384 bytes: 512 lines of 32, whose 20 bytes of texts are phrases.
+fn guide_with_tries() -> RecordCase {
+    let texts = format!("{0},{1},{1}", text(6), text(7));
+    let lines = format!("inputs,0,{texts}\n").repeat(512);
+    let wrong = format!("C,{texts}\nA,-2147483648\n").repeat(2);
+    let record = format!("{wrong}C,{texts}\nA,1\n").repeat(512);
+    let book = format!("{}\n{}\n", text(6), text(7));
+    let answers = [i32::MIN, i32::MIN, 1].repeat(512);
+    guide(&lines, &book, &answers, &record, (1, 1_536, 1_536))
 }

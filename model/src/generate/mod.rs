@@ -17,23 +17,35 @@ pub struct Sample {
     pub book: Vec<u8>,
 }
 
-/// Answers: mostly places of options, often few, at times enough for all.
+/// Answers outside the options of every question.
+const OUTSIDE: [i32; 6] = [-1, 8, 9, 255, i32::MIN, i32::MAX];
+
+/// Answers: mostly places of options, often few, at times enough for all. In some
+/// lists many are outside the options, alone or two and three in a row.
 pub fn answers(rng: &mut Rng) -> Vec<i32> {
     let count = match rng.below(20) {
         0..=2 => 0,
         3..=10 => rng.between(1, 8),
         11..=17 => rng.between(9, 40),
         18 => rng.between(41, 100),
-        _ => 512,
+        _ => *rng.pick(&[512, 512, 512, 512, 512, 512, 512, 1_536]),
     };
     let highest_small = rng.between(1, 9);
-    (0..count)
-        .map(|_| match rng.below(16) {
+    let outside_share = *rng.pick(&[0, 1, 1, 4, 8]);
+    let mut answers = Vec::new();
+    while answers.len() < count {
+        if rng.below(16) < outside_share {
+            let outside = *rng.pick(&OUTSIDE);
+            answers.extend(vec![outside; rng.between(1, 3)]);
+        }
+        answers.push(match rng.below(16) {
             0 => constant(rng),
             1 => rng.next_u64() as i32,
             _ => rng.below(highest_small) as i32,
-        })
-        .collect()
+        });
+    }
+    answers.truncate(count);
+    answers
 }
 
 /// A guide, damaged or with a damaged book once in a few times.

@@ -61,8 +61,8 @@ impl Vector {
         let (values, out) = self.call(call);
         let values = match values {
             Ok(Values::Length(length)) => format!("Y,{length}"),
-            Ok(Values::Ran(Ran { length, outcome, taken, steps })) => {
-                format!("Y,{length},{outcome},{taken},{steps}")
+            Ok(Values::Ran(Ran { length, outcome, taken, steps, wrong })) => {
+                format!("Y,{length},{outcome},{taken},{steps},{wrong}")
             }
             Err(Refusal { number, place }) => format!("N,{number},{place}"),
         };

@@ -53,6 +53,7 @@ pub fn ran(record: &Record) -> Ran {
         outcome: record.outcome as u32,
         taken: record.taken,
         steps: record.steps,
+        wrong: record.wrong,
     }
 }
 
@@ -151,8 +152,8 @@ pub fn check_record(case: &RecordCase) {
     let check = |record: Record| {
         let transcript = String::from_utf8_lossy(&record.transcript).into_owned();
         assert_eq!(transcript, String::from_utf8_lossy(&case.transcript), "{what}");
-        let ends = (record.outcome as u32, record.taken, record.steps);
-        assert_eq!(ends, (case.outcome, case.taken, case.steps), "{what}");
+        let ends = (record.outcome as u32, record.taken, record.steps, record.wrong);
+        assert_eq!(ends, (case.outcome, case.taken, case.steps, case.wrong), "{what}");
     };
     let (input, book, answers) = (&case.input[..], &case.book[..], &case.answers[..]);
     let plate = match case.source {

@@ -4,27 +4,24 @@ use Rattle.doorplate.proofs.Values.{ended, not-run}
 use Rattle.doorplate.proofs.ran_values.Statement.{statement}
 use Rattle.doorplate.proofs.ran_values.Tie as tie
 
--- src/lib.rt:58:27
 enum-known-answer : tie.Need-enum-known-answer
 enum-known-answer c = search needs
 
--- src/lib.rt:64:26
 outcome-of-requires : tie.Need-outcome-of-requires
 outcome-of-requires c κs = search needs
 
--- src/lib.rt:69:30
+wrong-of-requires : tie.Need-wrong-of-requires
+wrong-of-requires c κs = search needs
+
 enum-known-answer-2 : tie.Need-enum-known-answer-2
 enum-known-answer-2 c = search needs
 
--- src/lib.rt:72:25
 number-of-requires : tie.Need-number-of-requires
 number-of-requires c κs = search needs
 
--- src/lib.rt:54:1
 returns : tie.Need-returns
-returns c = ended (c .before .before .answer .given .1) (c .outcome-of .ensures)
+returns c = ended (c .before .before .before .answer .given .1) (c .before .outcome-of .ensures) (c .wrong-of .ensures)
 
--- src/lib.rt:54:1
 returns-2 : tie.Need-returns-2
 returns-2 c = not-run (c .before .before .answer2 .given .1) (c .number-of .ensures)
 
@@ -34,6 +31,7 @@ ran-values-spec =
     (tie.spec
     enum-known-answer
     outcome-of-requires
+    wrong-of-requires
     enum-known-answer-2
     number-of-requires
     returns

@@ -75,7 +75,7 @@ returns c =
     let is = input-is _ _ _ refl (start .pre .2) e in
     let line = c .before .before .before .before .before .before .before .put-line .ensures in
     let left = c .before .before .answer .ensures in
-    (lay-statement is _ _ _ _ (lay-perform _ _ _ (input _ _) _ _ _ _ _ (line .0) (left .0) (omega (arith, start .good))), ((left .1 .0 ∙ over-statement is _, left .1 .2), rw (left .1 .1) (line .1) ∙ input-end _ _ _ refl e))
+    (lay-statement is _ _ _ _ (lay-perform _ _ _ (input _ _) _ _ _ _ _ (line .0) (left .0) (omega (arith, start .good))), ((left .1 .0 ∙ over-statement is _, omega (arith, left .1 .2)), rw (left .1 .1) (line .1) ∙ input-end _ _ _ refl e))
 
 same-length-2 : tie.Need-same-length-2
 same-length-2 c = search needs
@@ -87,19 +87,19 @@ same-length-3 : tie.Need-same-length-3
 same-length-3 c = search needs
 
 returns-3 : tie.Need-returns-3
-returns-3 c = let left = c .before .before .show .ensures in rw (c .before .before .before .before .before .head3 .given .1) (left .0 _ _, ((left .1 .0 .0 _, left .1 .0 .1), left .1 .1))
+returns-3 c = let left = c .before .before .show .ensures in rw (c .before .before .before .before .before .head3 .given .1) (left .0 _ _, ((left .1 .0 .0 _, omega (arith, left .1 .0 .1)), left .1 .1))
 
 same-length-4 : tie.Need-same-length-4
 same-length-4 c = search needs
 
 returns-4 : tie.Need-returns-4
-returns-4 c = let left = c .before .before .rule .ensures in rw (c .before .before .before .before .before .head4 .given .1) (left .0 _ _, ((left .1 .0 .0 _, left .1 .0 .1), left .1 .1))
+returns-4 c = let left = c .before .before .rule .ensures in rw (c .before .before .before .before .before .head4 .given .1) (left .0 _ _, ((left .1 .0 .0 _, omega (arith, left .1 .0 .1)), left .1 .1))
 
 returns-5 : tie.Need-returns-5
 returns-5 c =
     let e = c .before .before .before .head5 .given .1 in
     let is = goto-is _ _ _ refl e in
-    (lay-goto is _ _ _ _ _ (c .go-on .ensures .0 _ _ _) (c .before .stepped .ensures .0 _ _), ((c .go-on .ensures .1 .0 ∙ over-goto is _, c .go-on .ensures .1 .2 ∙ c .before .stepped .ensures .1 .1), rw (c .go-on .ensures .1 .1) (ap (endWith 0) (goto-read _ _ _ refl e))))
+    (lay-goto is _ _ _ _ _ (c .go-on .ensures .0 _ _ _) (c .before .stepped .ensures .0 _ _), ((c .go-on .ensures .1 .0 ∙ over-goto is _, omega (arith, c .go-on .ensures .1 .2, c .before .stepped .ensures .1 .1)), rw (c .go-on .ensures .1 .1) (ap (endWith 0) (goto-read _ _ _ refl e))))
 
 returns-6 : tie.Need-returns-6
 returns-6 c =
@@ -107,7 +107,7 @@ returns-6 c =
     let e = c .before .before .before .before .head6 .given .1 in
     let read = c .before .accepted-if .ensures .0 in
     let is = if-is _ _ _ refl w _ e read in
-    (lay-if _ _ _ is _ _ _ (c .decide .ensures .0 _ _), ((over-if _ _ _ is (c .decide .ensures .1 .0 _), c .decide .ensures .1 .1 .1), rw (c .decide .ensures .1 .1 .0) (ap (endWith 0) (if-read _ _ _ refl w _ e read))))
+    (lay-if _ _ _ is _ _ _ (c .decide .ensures .0 _ _), ((over-if _ _ _ is (c .decide .ensures .1 .0 _), omega (arith, c .decide .ensures .1 .1 .1)), rw (c .decide .ensures .1 .1 .0) (ap (endWith 0) (if-read _ _ _ refl w _ e read))))
 
 pub perform-head-spec : {M : Type 1} → statement M
 perform-head-spec =

@@ -1,4 +1,4 @@
--- `put_report` meets its contract: the three numbers behind their labels and LF are written one behind the other.
+-- `put_report` meets its contract: the four numbers behind their labels and LF are written one behind the other.
 use native.Mathlib.Omega.{arith}
 use Rattle.output.proofs.Pour.{then}
 use Rattle.printed.specs.Lines.{reportLine}
@@ -8,6 +8,9 @@ use Rattle.printed.proofs.lines.put_report.Tie as tie
 
 outcome-of-requires : tie.Need-outcome-of-requires
 outcome-of-requires c κs = search needs
+
+wrong-of-requires : tie.Need-wrong-of-requires
+wrong-of-requires c κs = search needs
 
 slice-aggregate-put-labelled : tie.Need-slice-aggregate-put-labelled
 slice-aggregate-put-labelled c = search needs
@@ -30,6 +33,15 @@ slice-aggregate-put-labelled-3 c = search needs
 put-labelled-requires-3 : tie.Need-put-labelled-requires-3
 put-labelled-requires-3 c κs = search needs
 
+slice-aggregate-put-labelled-4 : tie.Need-slice-aggregate-put-labelled-4
+slice-aggregate-put-labelled-4 c = search needs
+
+cast-put-labelled-2 : tie.Need-cast-put-labelled-2
+cast-put-labelled-2 c = search needs
+
+put-labelled-requires-4 : tie.Need-put-labelled-requires-4
+put-labelled-requires-4 c κs = search needs
+
 put-byte-requires : tie.Need-put-byte-requires
 put-byte-requires c κs = search needs
 
@@ -38,16 +50,20 @@ same-length c = search needs
 
 returns : tie.Need-returns
 unfolding reportLine
-returns c = let two = then _ _ _ _ _ _ _ (c .before .before .before .before .before .before .before .before .before .before .before .before .before .before .before .before .put-labelled .ensures) (c .before .before .before .before .before .before .before .before .before .before .before .put-labelled2 .ensures) (omega arith) in
-    let three = then _ _ _ _ _ _ _ two (c .before .before .before .before .before .before .put-labelled3 .ensures) (omega arith) in
-    let line = then _ _ _ _ _ _ _ three (c .before .before .put-byte .ensures) (omega arith) in
-    rw (c .before .before .before .before .before .before .before .before .before .before .before .before .before .before .before .before .before .before .before .outcome-of .ensures) at line
+returns c =
+    let outcome = rw (c .before .before .before .before .before .before .before .before .before .before .before .before .before .before .before .before .before .before .before .before .before .before .before .before .before .outcome-of .ensures) at (c .before .before .before .before .before .before .before .before .before .before .before .before .before .before .before .before .before .before .before .before .before .put-labelled .ensures) in
+    let wrong = rw (c .before .before .before .before .before .before .before .before .before .before .before .before .before .before .before .before .before .before .before .before .before .before .before .before .wrong-of .ensures) at (c .before .before .before .before .before .before .put-labelled4 .ensures) in
+    let two = then _ _ _ _ _ _ _ outcome (c .before .before .before .before .before .before .before .before .before .before .before .before .before .before .before .before .put-labelled2 .ensures) (omega arith) in
+    let three = then _ _ _ _ _ _ _ two (c .before .before .before .before .before .before .before .before .before .before .before .put-labelled3 .ensures) (omega arith) in
+    let four = then _ _ _ _ _ _ _ three wrong (omega arith) in
+    then _ _ _ _ _ _ _ four (c .before .before .put-byte .ensures) (omega arith)
 
 pub put-report-spec : {M : Type 1} → statement M
 put-report-spec =
     tie.close
     (tie.spec
     outcome-of-requires
+    wrong-of-requires
     slice-aggregate-put-labelled
     cast-put-labelled
     put-labelled-requires
@@ -55,6 +71,9 @@ put-report-spec =
     put-labelled-requires-2
     slice-aggregate-put-labelled-3
     put-labelled-requires-3
+    slice-aggregate-put-labelled-4
+    cast-put-labelled-2
+    put-labelled-requires-4
     put-byte-requires
     same-length
     returns)

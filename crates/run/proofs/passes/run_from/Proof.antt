@@ -1,6 +1,6 @@
 -- `run_from` meets its contract. The loop: the run of the instructions that are left, behind what is written, is the whole run.
 use borrow.Author.Needs.{needs}
-use Prim.Native.Nat.{_+_, _≤_}
+use Prim.Native.Nat.{_+_, _*_, _≤_}
 use mathlib.Core.Path.{_≡_, refl, _∙_}
 use native.Mathlib.Omega.{arith}
 use lib.ListN.{length}
@@ -14,7 +14,7 @@ use Rattle.run.proofs.passes.run_from.Statement.{statement}
 use Rattle.run.proofs.passes.run_from.Tie as tie
 
 abbrev Inv-loop : tie.InvT-loop
-Inv-loop plate index book own from n answers registers₀ out₀ count p₀ bit₀ left₀ over₀ registers out p bit left over = Continues plate book own count left bit × (laid (p .end) (run (instructionsFrom plate book own count left bit) over (machineState registers answers (p .machine))) out ≡ laid (p₀ .end) (run (instructionsFrom plate book own count n from) 0 (machineState registers₀ answers (p₀ .machine))) out₀) × (p .outcome ≡ End) × (p .machine .steps + left ≤ 18446744073709551615) × (p .end ≤ 18446744073709551615) × (length out ≡ length out₀)
+Inv-loop plate index book own from n answers registers₀ out₀ count p₀ bit₀ left₀ over₀ registers out p bit left over = Continues plate book own count left bit × (laid (p .end) (run (instructionsFrom plate book own count left bit) over (machineState registers answers (p .machine))) out ≡ laid (p₀ .end) (run (instructionsFrom plate book own count n from) 0 (machineState registers₀ answers (p₀ .machine))) out₀) × (p .outcome ≡ End) × (p .machine .steps + 3 * left ≤ 18446744073709551615) × (p .end ≤ 18446744073709551615) × (length out ≡ length out₀)
 
 abbrev μ-loop : tie.MeasureT-loop
 μ-loop plate index book own from n answers registers₀ out₀ count p₀ bit₀ left₀ over₀ registers out p bit left over = left

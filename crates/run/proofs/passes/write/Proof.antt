@@ -1,25 +1,28 @@
 -- `write` meets its contract: straight into a buffer that is long enough; else 11 where it is too short, or the whole transcript.
 use native.Mathlib.Omega.{arith}
 use Rattle.machine.proofs.Passes.{too-short}
-use borrow.Author.Needs.{needs}
 use Rattle.run.proofs.Short.{straight, second}
+use borrow.Author.Needs.{needs}
 use Rattle.run.proofs.passes.write.Statement.{statement}
 use Rattle.run.proofs.passes.write.Tie as tie
 
 see-answers-requires : tie.Need-see-answers-requires
 see-answers-requires c κs = search needs
 
-mul-sum : tie.Need-mul-sum
-mul-sum c = omega arith
+mul-if3 : tie.Need-mul-if3
+mul-if3 c = search needs
 
-sum-requires : tie.Need-sum-requires
-sum-requires c κs = search needs
+mul-if3-2 : tie.Need-mul-if3-2
+mul-if3-2 c = search needs
 
-mul-if2 : tie.Need-mul-if2
-mul-if2 c = omega (arith, c .before .before .before .before .before .before .before .before .pre .stands .few)
+add-if3 : tie.Need-add-if3
+add-if3 c = search needs
 
-add-if2 : tie.Need-add-if2
-add-if2 c = omega (arith, c .before .before .before .before .before .before .before .before .pre .stands .few, c .before .before .before .before .before .before .before .before .good)
+mul-if3-3 : tie.Need-mul-if3-3
+mul-if3-3 c = omega (arith, c .before .before .before .before .before .before .before .before .pre .stands .few)
+
+add-if3-2 : tie.Need-add-if3-2
+add-if3-2 c = omega (arith, c .before .before .before .before .before .before .before .before .pre .stands .few, c .before .before .before .before .before .before .before .before .good)
 
 produce-requires : tie.Need-produce-requires
 produce-requires c κs = search needs
@@ -33,7 +36,7 @@ same-length c = search needs
 returns : tie.Need-returns
 returns c =
     rw (c .report-of .ensures)
-    (straight _ _ _ _ _ (c .before .before .before .before .before .before .before .before .before .before .before .before .before .before .pre) _ (c .before .before .before .before .before .before .before .before .see-answers .ensures) _ _ _ _ _ (c .before .before .before .produce .ensures .1) (c .before .before .before .before .before .before .sum .ensures) (c .before .before .before .before .before .if2 .taken)
+    (straight _ _ _ _ _ (c .before .before .before .before .before .before .before .before .before .before .before .before .before .before .pre) _ (c .before .before .before .before .before .before .before .before .see-answers .ensures) _ _ _ _ (c .before .before .before .produce .ensures .1) (c .before .before .before .before .before .before .if2 .taken) (c .before .before .before .before .before .if3 .taken)
     (omega (arith, c .before .before .before .before .before .before .before .before .before .before .before .before .before .before .good)))
 
 slice-aggregate-produce : tie.Need-slice-aggregate-produce
@@ -43,7 +46,7 @@ produce-requires-2 : tie.Need-produce-requires-2
 produce-requires-2 c κs = search needs
 
 returns-2 : tie.Need-returns-2
-returns-2 c = too-short _ _ _ _ _ _ (c .before .before .produce2 .ensures .1) _ (c .if3 .taken)
+returns-2 c = too-short _ _ _ _ _ _ (c .before .before .produce2 .ensures .1) _ (c .if4 .taken)
 
 produce-requires-3 : tie.Need-produce-requires-3
 produce-requires-3 c κs = search needs
@@ -57,17 +60,18 @@ same-length-2 c = search needs
 returns-3 : tie.Need-returns-3
 returns-3 c =
     rw (c .report-of2 .ensures)
-    (second _ _ _ _ _ _ _ _ _ _ (c .before .before .before .before .before .before .before .produce2 .ensures .1) (c .before .before .before .produce3 .ensures .1) (c .before .before .before .before .before .if3 .left) (omega (arith, c .before .before .before .before .before .before .before .before .before .before .before .before .before .before .before .before .good)))
+    (second _ _ _ _ _ _ _ _ _ _ (c .before .before .before .before .before .before .before .produce2 .ensures .1) (c .before .before .before .produce3 .ensures .1) (c .before .before .before .before .before .if4 .left) (omega (arith, c .before .before .before .before .before .before .before .before .before .before .before .before .before .before .before .before .good)))
 
 pub write-spec : {M : Type 1} → statement M
 write-spec =
     tie.close
     (tie.spec
     see-answers-requires
-    mul-sum
-    sum-requires
-    mul-if2
-    add-if2
+    mul-if3
+    mul-if3-2
+    add-if3
+    mul-if3-3
+    add-if3-2
     produce-requires
     report-of-requires
     same-length

@@ -1,6 +1,7 @@
 -- `produce` meets its contract: it is the walk from the start, over all lines.
 use native.Mathlib.Omega.{arith}
 use Rattle.machine.proofs.Passes.{fresh-steps}
+use Rattle.guide.proofs.Counting.{few-lines}
 use Rattle.walk.proofs.Whole.{text-laid}
 use borrow.Author.Needs.{needs}
 use Rattle.walk.proofs.passes.produce.Statement.{statement}
@@ -10,7 +11,7 @@ fresh-requires : tie.Need-fresh-requires
 fresh-requires c κs = search needs
 
 block-requires : tie.Need-block-requires
-block-requires c κs = (search needs, omega (arith, fresh-steps _ (c .fresh .ensures)), c .before .before .before .before .before .pre)
+block-requires c κs = (search needs, omega (arith, fresh-steps _ (c .fresh .ensures), few-lines (c .before .before .before .before .before .args .guide .now)), c .before .before .before .before .before .pre .1)
 
 same-length : tie.Need-same-length
 same-length c = search needs

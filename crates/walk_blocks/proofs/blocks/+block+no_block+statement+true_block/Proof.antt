@@ -11,7 +11,7 @@ use Rattle.transcript.specs.Machine.{machineState}
 use Rattle.guide.specs.Lines.{beginsBy, linesAt}
 use Rattle.guide.proofs.Reading.{begins-first, begins-less}
 use Rattle.guide.proofs.Passing.{passed-no-more}
-use Rattle.guide.proofs.Counting.{few-lines}
+use Rattle.walk_blocks.specs.Leaves.{StepsFit}
 use Rattle.walk_blocks.proofs.Leaving.{leaves-as, leaves-performed, paced-here, paced-from}
 use Rattle.walk_blocks.proofs.LineStatements.{no-if, line-says, line-performs, if-test, if-walks}
 use Rattle.walk_blocks.proofs.Cycle.{Rest, block-ends, block-ended, block-goes}
@@ -145,7 +145,7 @@ abbrev block-Inv-loop : block-lts.InvT-loop
 block-Inv-loop guide answers registers₀ out₀ a at place₀ end₀ m₀ registers out place end m =
     Rest guide answers place (machineState registers answers m) end out a (machineState registers₀ answers m₀) at out₀
     × (place ≤ length guide)
-    × (m .steps + length (linesAt guide place) ≤ length (linesAt guide 0))
+    × StepsFit guide place (m .steps)
     × (length (linesAt guide place) ≤ length (linesAt guide a))
     × (length out ≡ length out₀)
     × Clean aGuide (drop place guide)
@@ -217,7 +217,7 @@ no-block-returns-3 t c =
 statement-perform-requires : (t : ℕ) → statement-lts.Need-perform-requires (statement-calls t) (statement-at t) statement′.Post
 statement-perform-requires t c κs =
     let s = c .before .before .before .before .before .before .pre .1 .0 in
-    (line-says _ _ (s .head) (ap beginsBy (sym (s .role)) ∙ c .before .before .before .before .before .before .pre .1 .1) (no-if _ (c .before .before .before .match .keys2)), (aGuide, s .head), omega (arith, few-lines (c .before .before .before .before .before .before .args .guide .now)))
+    (line-says _ _ (s .head) (ap beginsBy (sym (s .role)) ∙ c .before .before .before .before .before .before .pre .1 .1) (no-if _ (c .before .before .before .match .keys2)), (aGuide, s .head), omega arith)
 
 statement-returns : (t : ℕ) → statement-lts.Need-returns (statement-calls t) (statement-at t) statement′.Post
 statement-returns t c =
@@ -277,7 +277,7 @@ pub +block+no-block+statement+true-block-spec : {M : Type 1} → statement M
     (statement-perform-requires t)
     (λ c. search needs)
     (statement-returns t)
-    (λ c κs. omega (arith, few-lines (c .before .before .before .before .before .args .guide .now)))
+    (λ c κs. search needs)
     (λ c κs. if-test _ _ (c .before .before .before .before .before .before .before .pre .1 .0 .head) _ (c .before .before .before .head .given .1) .0)
     (λ c κs. (search needs, (search needs, search needs, search needs)))
     (λ c. search needs)

@@ -4,7 +4,6 @@ use native.Mathlib.Omega.{arith}
 use Rattle.walk_blocks.proofs.Leaving.{leaves-as, paced-here}
 use Rattle.guide.proofs.Reading.{rest-no-more, else-less}
 use Rattle.guide.proofs.Passing.{passed-no-more}
-use Rattle.guide.proofs.Counting.{few-lines}
 use Rattle.walk_blocks.proofs.Cycle.{leave-turned, leave-closed}
 use borrow.Author.Needs.{needs}
 use Rattle.walk_blocks.proofs.leave.leave_true.Statement.{statement}
@@ -23,7 +22,7 @@ role-at-requires-2 : tie.Need-role-at-requires-2
 role-at-requires-2 c κs = search needs
 
 stepped-requires : tie.Need-stepped-requires
-stepped-requires c κs = omega (arith, few-lines (c .before .before .before .before .before .before .args .guide .now))
+stepped-requires c κs = omega (arith, else-less _ _ _ _ (c .before .before .before .before .role-at .ensures) (sym (c .before .before .before .is-else .ensures) ∙ c .before .before .if1 .taken))
 
 here-requires : tie.Need-here-requires
 here-requires c κs = search needs

@@ -1,6 +1,7 @@
 -- `perform` meets its contract, by cases on the head.
 use mathlib.Core.Path.{sym, _∙_}
 use borrow.Author.Needs.{needs}
+use native.Mathlib.Omega.{arith}
 use Rattle.lines.proofs.FieldPlaces.{whole-rest}
 use Rattle.lines.proofs.LineTexts.{texts, asked-register, asked-text}
 use Rattle.walk_blocks.proofs.LineStatements.{is-printex}
@@ -69,7 +70,7 @@ returns c =
     let e = c .before .before .before .before .before .before .before .before .head .given .1 in
     let r = c .before .before .before .before .before .before .behind-register .ensures in
     let t = asked-text _ _ _ _ (start .pre .1) e (r .0) (r .1) in
-    (simp e (rw t at (c .before .before .ask .ensures .0)), c .before .before .ask .ensures .1 .0)
+    (simp e (rw t at (c .before .before .ask .ensures .0)), omega (arith, c .before .before .ask .ensures .1))
 
 same-length-2 : tie.Need-same-length-2
 same-length-2 c = search needs
@@ -85,7 +86,7 @@ returns-3 c =
     let start = c .before .before .before .before .before .before .before .before .before in
     let e = c .before .before .before .before .before .enum-told .given .1 in
     let t = whole-rest (start .args .line .now) 6 ∙ sym (texts _ _ _ (start .pre .1) e .0) in
-    (simp e (rw t at (c .before .before .show .ensures .0 (start .args .registers .now) (start .args .answers .now))), c .before .before .show .ensures .1 .0)
+    (simp e (rw t at (c .before .before .show .ensures .0 (start .args .registers .now) (start .args .answers .now))), omega (arith, c .before .before .show .ensures .1 .0))
 
 same-length-4 : tie.Need-same-length-4
 same-length-4 c = search needs
@@ -95,7 +96,7 @@ returns-4 c =
     let start = c .before .before .before .before .before .before .before .before in
     let e = is-printex (start .args .head) _ (start .pre .0) (c .before .before .before .before .before .match .keys4) in
     let t = whole-rest (start .args .line .now) 8 ∙ sym (texts _ _ _ (start .pre .1) e .0) in
-    (rw e (rw t at (c .before .before .rule .ensures .0 (start .args .registers .now) (start .args .answers .now))), c .before .before .rule .ensures .1 .0)
+    (rw e (rw t at (c .before .before .rule .ensures .0 (start .args .registers .now) (start .args .answers .now))), omega (arith, c .before .before .rule .ensures .1 .0))
 
 pub perform-spec : {M : Type 1} → statement M
 perform-spec =

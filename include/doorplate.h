@@ -1,5 +1,5 @@
 /* doorplate: door-plate guides for C. The five calls of the paper "Door-plate guides: text, plate and run" (document 01),
- * with the requests c, d, f, h and l of document 02, "Later changes to the base".
+ * with the requests c, d, f, h, l and n of document 02, "Later changes to the base".
  *
  * Every call is proved, for every content and length of its inputs and every lent buffer, to answer and to leave in the buffer exactly
  * what its definition says (docs/DEFINITIONS.md, "The C library"). No call has a precondition of its own. What C has to see to:
@@ -18,10 +18,10 @@ extern "C" {
 #endif
 
 /* Lengths that always do (documents 01 and 02). */
-#define DOORPLATE_PLATE_BYTES 2953      /* no accepted plate is longer */
-#define DOORPLATE_LISTING_BYTES 327680  /* no accepted plate has a longer listing */
+#define DOORPLATE_PLATE_BYTES 2953        /* no accepted plate is longer */
+#define DOORPLATE_LISTING_BYTES 327680    /* no accepted plate has a longer listing */
 #define DOORPLATE_TRANSCRIPT_BYTES 918016 /* no accepted guide or plate has a longer transcript */
-#define DOORPLATE_SCRATCH_NUMBERS 64    /* what doorplate_run asks for */
+#define DOORPLATE_SCRATCH_NUMBERS 64      /* what doorplate_run asks for */
 
 /* Outcomes of a walk or a run. */
 #define DOORPLATE_VERDICT 0   /* a verdict was shown */
@@ -75,7 +75,8 @@ doorplate_ran doorplate_walk(const uint8_t *guide, size_t guide_length, const ui
 
 /* The transcript of a plate, run on the answers. Refusals: 1, 8, 10 to 15; 11 also for fewer than 64 numbers of scratch.
  * scratch is left as it was. On the bytes that doorplate_translate wrote for a guide, with the same book and enough scratch, the answer and
- * the buffer are those of doorplate_walk on that guide, for every list of answers and every buffer. */
+ * the buffer are those of doorplate_walk on that guide, for every list of answers and every buffer. With more answers behind those of a run
+ * that waits, the transcript begins with that run's; behind those of any other run, nothing changes. So it is for doorplate_walk. */
 doorplate_ran doorplate_run(const uint8_t *plate, size_t plate_length, const uint8_t *book, size_t book_length,
                             const int32_t *answers, size_t answers_length, uint16_t *scratch, size_t scratch_length,
                             uint8_t *transcript, size_t transcript_length);

@@ -3,3 +3,4 @@ pub mod Valid
 pub mod Demand3
 pub mod Composed
 pub mod Longest
+pub mod Lengthened

@@ -1,10 +1,13 @@
 // Demand 3: running the translator's plate gives what walking the guide gives, for every list of answers.
 // specs/Agreement.antt says what is claimed, in the order of the demand's sentences; proofs/ shows it for every book, guide, plate that
 // the translation makes of it, scratch and transcript buffer. specs/Composed.antt says the same of the calls: the function composes
-// translate and run, and its contract stands on their own promises.
+// translate and run, and its contract stands on their own promises. src/more.rt composes two runs.
+mod more;
 
 use causes::Ran;
 use causes::Written;
+pub use more::Runs;
+pub use more::run_and_go_on;
 ghost use Prim.Native.Nat.{ℕ, _≤_};
 ghost use mathlib.Core.Path.{_≡_};
 ghost use lib.ListN.{length, take};

@@ -3,3 +3,7 @@ pub mod Steps
 pub mod Numbered
 pub mod Natural
 pub mod Few
+pub mod Longer
+pub mod More
+pub mod Ended
+pub mod MoreCalled

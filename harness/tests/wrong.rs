@@ -19,7 +19,7 @@ enum Fault {
     PlaceOfAccepted,
     /// The length is one less.
     Length,
-    /// An answer outside the options is said to be a wait.
+    /// The third wrong answer is said to be a wait.
     Outcome,
     /// One answer more was taken.
     Taken,

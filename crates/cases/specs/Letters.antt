@@ -92,11 +92,15 @@ sequences =
     ++ allows (hex "C280")
     ++ allows (hex "DFBF")
     ++ allows (hex "E0A080")
+    ++ allows (hex "E18080")
+    ++ allows (hex "ECBFBF")
     ++ allows (hex "ED9FBF")
     ++ allows (hex "EE8080")
     ++ allows (hex "EFBBBF")
     ++ allows (hex "EFBFBF")
     ++ allows (hex "F0908080")
+    ++ allows (hex "F1808080")
+    ++ allows (hex "F3BFBFBF")
     ++ allows (hex "F48FBFBF")
 
 -- 64 bytes, not letters: 32 letters of 2 bytes; one letter more, one byte more

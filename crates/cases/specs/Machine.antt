@@ -88,6 +88,7 @@ wrongChoices =
     tries colour (pos 5 ∷ []) (bytes "C,Col,red,blue\nA,5\nC,Col,red,blue\n") 2 1 2 1
     ++ tries colour (pos 5 ∷ pos 6 ∷ []) (bytes "C,Col,red,blue\nA,5\nC,Col,red,blue\nA,6\nC,Col,red,blue\n") 2 2 3 2
     ++ tries colour (pos 5 ∷ pos 6 ∷ pos 7 ∷ []) (bytes "C,Col,red,blue\nA,5\nC,Col,red,blue\nA,6\nC,Col,red,blue\n") 3 2 3 3
+    ++ tries colour (pos 5 ∷ pos 6 ∷ pos 7 ∷ pos 1 ∷ []) (bytes "C,Col,red,blue\nA,5\nC,Col,red,blue\nA,6\nC,Col,red,blue\n") 3 2 3 3
     ++ meets
     colour
     (pos 5 ∷ pos 6 ∷ pos 1 ∷ [])
@@ -167,6 +168,7 @@ machine =
     (runCall (bytesMade (translation [] choice)) [] (pos 0 ∷ []) scratchNumbers)
     (bytes "C,Lamp,on,off\nA,0\n")
     (ended 18 1 1 2 0)
+    ++ fits (walkCall colour [] (pos 5 ∷ [])) (bytes "C,Col,red,blue\nA,5\nC,Col,red,blue\n") (ended 34 2 1 2 1)
     ++ refuses (runCall (bytesMade (translation [] choice)) [] (pos 0 ∷ []) scratchNumbers) 11 0
     ++ ((runCall (bytesMade (translation [] [])) [] [] 63 (untouched 4) gives (refusal 11 0, untouched 4)) ∷ [])
     ++ ((runCall (bytesMade (translation [] [])) [] [] 64 (untouched 4) gives (ended 0 1 0 0 0, untouched 4)) ∷ [])

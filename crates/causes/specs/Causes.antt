@@ -1,4 +1,4 @@
--- Document 01, "Causes": the number of each cause. "Outcomes": the number of each outcome.
+-- Document 01, "Causes": the number of each cause. "Outcomes": the number of each outcome. Document 02, c): the wrong answers.
 use Prim.Native.Nat.{ℕ}
 use Rattle.causes.specs.declared.Cause.{Cause}
 use Rattle.causes.specs.declared.Cause.the-variants.{

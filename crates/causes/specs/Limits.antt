@@ -1,4 +1,4 @@
--- The limits of document 01, each once, with the cause of what goes past it.
+-- The limits of documents 01 and 02, each once, with the cause of what goes past it where there is one.
 use Prim.Native.Nat.{ℕ}
 
 -- "up to 256 different texts": 1
@@ -33,7 +33,11 @@ mostPlateBytes = 2953
 abbrev pub mostPlateBits : ℕ
 mostPlateBits = 23624
 
--- no transcript is longer: 512 inputs of 1,793 bytes, each with its C line three times, two wrong answers and the third, an option's place
+-- document 02, c): "two more tries": so many wrong answers to a question are taken
+abbrev pub moreTries : ℕ
+moreTries = 2
+
+-- no transcript is longer: 512 inputs of 1,793 bytes each, with its C line three times, two wrong answers and an option's place
 abbrev pub mostTranscriptBytes : ℕ
 mostTranscriptBytes = 918016
 

@@ -13,7 +13,7 @@ pub enum Cause {
     Book,
     // Guide or listing too long.
     TooLong,
-    // Byte not allowed, or last line without LF.
+    // Byte not allowed, ill-formed UTF-8, or last line without LF.
     Byte,
     // Unknown kind or wrong count of fields.
     Kind,
@@ -52,11 +52,11 @@ pub enum Outcome {
     Verdict,
     End,
     // After so many wrong answers to the present question.
-    Waiting { wrong: u32 },
+    Waiting { wrong: u8 },
     Outside,
 }
 
-// What a walk or a run returns: the transcript's length, the outcome, the answers taken and the steps.
+// What a walk or a run returns: the transcript's length, the outcome, with the wrong answers so far where it waits, the answers taken and the steps.
 pub struct Report {
     pub length: usize,
     pub outcome: Outcome,
@@ -118,7 +118,7 @@ pub fn wrong_of(outcome: Outcome) -> u32
     match outcome {
         Outcome::Verdict => 0,
         Outcome::End => 0,
-        Outcome::Waiting { wrong } => wrong,
+        Outcome::Waiting { wrong } => wrong as u32,
         Outcome::Outside => 3,
     }
 }

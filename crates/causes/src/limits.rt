@@ -14,6 +14,9 @@ pub const INSTRUCTIONS: usize = 512;
 
 pub const PLATE_BYTES: usize = 2953;
 
+// So many wrong answers to a question are taken.
+pub const MORE_TRIES: u8 = 2;
+
 // Of the longest transcript.
 pub const TRANSCRIPT_BYTES: usize = 918016;
 

@@ -6,10 +6,10 @@ use mathlib.Core.List.{List, []}
 use mathlib.Core.Bool.{true}
 use lib.ListN.{length, take, drop, getD, length-drop}
 use lib.Seq.{take-add, drop-at, drop-drop, length-take-le}
-use Rattle.text.specs.Parts.{split, join, all, comma}
+use Rattle.text.specs.Parts.{split, join, comma}
 use Rattle.text.specs.Text.{Text, isText, isPlain, isOwnText}
 use Rattle.text.proofs.Bytes.{text-size}
-use Rattle.text.proofs.Tests.{in-range, and-parts}
+use Rattle.text.proofs.Tests.{and-parts}
 use Rattle.text.proofs.Splits.{join-split}
 use Rattle.phrases.specs.Lookup.{phraseText}
 use Rattle.lines.specs.declared.Form.{Form}

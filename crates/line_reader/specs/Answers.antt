@@ -12,8 +12,8 @@ use Rattle.lines.specs.declared.Head.the-variants.{Faulty}
 use Rattle.lines.specs.Fields.{testOf}
 use Rattle.line_reader.specs.declared.words.Operator.{Operator}
 use Rattle.line_reader.specs.declared.words.Operator.the-variants as operator
-use Rattle.line_reader.specs.declared.fields.OneText.{OneText}
-use Rattle.line_reader.specs.declared.fields.OneText.the-variants as one
+use Rattle.line_reader.specs.declared.one_text.OneText.{OneText}
+use Rattle.line_reader.specs.declared.one_text.OneText.the-variants as one
 use Rattle.line_reader.specs.declared.fields.TestRead.{TestRead}
 use Rattle.line_reader.specs.declared.fields.TestRead.the-variants.{Is, Wrong}
 

@@ -6,10 +6,11 @@ ghost use Prim.Native.Nat.{_≤_};
 ghost use lib.ListN.{length, getD};
 ghost use lib.Dec.{eqb};
 ghost use Rattle.text.specs.Parts.{comma, partsFrom};
-ghost use Rattle.text.specs.Text.{Text, isText, isOwnText};
 ghost use Rattle.lines.specs.Line as line;
 ghost use Rattle.lines.specs.Answers.{headOf};
-ghost use Rattle.line_reader.specs.Answers.{Tests, textHead};
+ghost use Rattle.line_reader.specs.Answers.{Tests};
+use crate::one_text::judge_text;
+use crate::one_text::text_head;
 use crate::words::Operator;
 use crate::words::read_operator;
 use causes::Cause;
@@ -22,13 +23,6 @@ use transcript::Test;
 // What reading the R, OP and C of an if finds: the test, and where C ends.
 pub enum TestRead {
     Is { test: Test, end: usize },
-    Wrong,
-}
-
-// What the judging of one text finds: a text, another count of fields, or a field that is no text.
-pub enum OneText {
-    Right,
-    OtherCount,
     Wrong,
 }
 
@@ -51,70 +45,6 @@ pub fn count_fields(s: &[u8], a: usize) -> usize
         0
     } else {
         text_parts::count_parts(&s[a..], b',')
-    }
-}
-
-// Whether the fields are one text, as in `phrase,TEXT`, `print,TEXT` and `printex,TEXT`. A text has no comma, so it is the only field.
-pub fn judge_text(s: &[u8], a: usize) -> OneText
-    ensures { λ r. ⌜ ((l : Text → line.Line) (h : Head) → ((t : Text) → headOf (l t) ≡ h) → textHead h r ≡ headOf (line.textLine isText l (partsFrom comma a (now (s .entry))))) ⌝ }
-{
-    if s.len() < a {
-        return OneText::OtherCount;
-    }
-    if text_bytes::is_text(&s[a..]) {
-        return OneText::Right;
-    }
-    if text::find(s, a, b',') < s.len() {
-        return OneText::OtherCount;
-    }
-    OneText::Wrong
-}
-
-// The same of an own phrase, which keeps to ASCII.
-pub fn judge_own(s: &[u8], a: usize) -> OneText
-    ensures { λ r. ⌜ ((l : Text → line.Line) (h : Head) → ((t : Text) → headOf (l t) ≡ h) → textHead h r ≡ headOf (line.textLine isOwnText l (partsFrom comma a (now (s .entry))))) ⌝ }
-{
-    if s.len() < a {
-        return OneText::OtherCount;
-    }
-    if text_bytes::is_text(&s[a..]) {
-        if utf8::is_ascii(&s[a..]) {
-            return OneText::Right;
-        }
-        return OneText::Wrong;
-    }
-    if text::find(s, a, b',') < s.len() {
-        return OneText::OtherCount;
-    }
-    OneText::Wrong
-}
-
-// The head of a line that should have one text: this head where it has. A head is built where it is returned, since one that is handed on to a
-// function and back is slow to copy.
-pub fn text_head(found: OneText, head: Head) -> Head
-    ensures { λ r. ⌜ r ≡ textHead head found ⌝ }
-{
-    match found {
-        OneText::Right => head,
-        OneText::OtherCount => Head::Faulty { cause: Cause::Kind },
-        OneText::Wrong => Head::Faulty {
-            cause: Cause::Value,
-        },
-    }
-}
-
-// `phrase,TEXT` of a listing; in a guide such a line is 6.
-pub fn read_phrase(form: Form, s: &[u8], a: usize) -> Head
-    ensures { λ r. ⌜ r ≡ headOf (line.textLine isOwnText (line.phraseLine form) (partsFrom comma a (now (s .entry)))) ⌝ }
-{
-    match form {
-        Form::Guide => text_head(
-            judge_own(s, a),
-            Head::Faulty {
-                cause: Cause::Phrase,
-            },
-        ),
-        Form::Listing => text_head(judge_own(s, a), Head::Phrase),
     }
 }
 

@@ -3,6 +3,7 @@
 // answer by a definition: specs/Line.antt of crate lines says what a line is.
 mod fields;
 mod line;
+mod one_text;
 mod words;
 
 pub use line::read_line;

@@ -9,7 +9,7 @@ use lib.ListN.{length, take, drop}
 use lib.Dec.{eqb}
 use borrow.Author.Tests.{eqb-true, eqb-false}
 use Rattle.text.specs.Quoted.{bytes}
-use Rattle.text.specs.Parts.{split, comma, partsFrom, untilByte, same, all}
+use Rattle.text.specs.Parts.{split, comma, partsFrom, untilByte, same}
 use Rattle.text.specs.Text.{allowedLine}
 use Rattle.text.proofs.Tests.{same-equal}
 use Rattle.text.proofs.Places.{parts-whole, parts-next, same-short}

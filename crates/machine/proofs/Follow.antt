@@ -1,4 +1,4 @@
--- What follows a statement: nothing behind a verdict, a wait or an answer outside the options; else it goes on from the statement's
+-- What follows a statement: nothing behind a verdict, a wait or the third wrong answer; else it goes on from the statement's
 -- machine, where the transcript then ends.
 use Prim.Native.Nat.{ℕ, _<_}
 use native.Mathlib.Omega.{arith}

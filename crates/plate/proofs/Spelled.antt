@@ -11,10 +11,10 @@ use Rattle.bits.specs.Bits.{bitsOf}
 use Rattle.bits.proofs.Numbers.{length-bitsOf}
 use Rattle.text.specs.Parts.{all}
 use Rattle.text.specs.Text.{Text, textSize}
-use Rattle.text.proofs.Tests.{and-parts, and-both, all-cons}
+use Rattle.text.proofs.Tests.{and-parts, and-both}
 use Rattle.phrases.specs.Phrases.{isNew}
-use Rattle.text.specs.Utf8.{wellFormed, ascii}
-use Rattle.text.proofs.Letters.{isByte, well-ascii, well-bytes}
+use Rattle.text.specs.Utf8.{wellFormed}
+use Rattle.text.proofs.Letters.{well-ascii, well-bytes}
 use Rattle.plate.specs.Writing.{ETX}
 use Rattle.plate.specs.Reading.{Place, got}
 use Rattle.plate.specs.Plate.{upToETX}

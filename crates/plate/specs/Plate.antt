@@ -1,4 +1,4 @@
--- Document 01, "Plate bits" and "Causes": how a plate is read, "field by field 12, 13, 14, 8; then 15".
+-- Documents 01, "Plate bits" and "Causes", and 02, f): how a plate is read, "field by field 12, 13, 14, 8; then 15".
 use Prim.Native.Nat.{ℕ, zero, suc, _+_, _-_, _^_}
 use mathlib.Core.List.{List, [], _∷_, _++_}
 use mathlib.Core.Bool.{Bool, true, false, cond, not, _&&_, _||_}

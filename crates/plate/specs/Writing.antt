@@ -1,4 +1,4 @@
--- Document 01, "Plate bits": the bits and bytes of a program, with a book.
+-- Documents 01, "Plate bits", and 02, f): the bits and bytes of a program, with a book.
 use Prim.Native.Nat.{ℕ, _-_, _^_}
 use mathlib.Core.List.{List, [], _∷_, _++_}
 use mathlib.Core.Bool.{Bool, cond, _&&_}

@@ -1,6 +1,6 @@
 -- "Every plate already engraved keeps its bits and its meaning."
-use Prim.Native.Nat.{ℕ, zero, suc, _≤_}
-use mathlib.Core.Path.{_≡_, refl, sym, ap, _∙_}
+use Prim.Native.Nat.{ℕ, zero, suc}
+use mathlib.Core.Path.{_≡_, refl, ap, _∙_}
 use mathlib.Core.List.{List, [], _∷_, _++_}
 use mathlib.Core.Bool.{Bool, true, false, cond, not, _&&_, _||_, false≢true}
 use native.Mathlib.Omega.{arith}
@@ -11,7 +11,7 @@ use Rattle.causes.specs.Answers.{Result, made, refused}
 use Rattle.causes.specs.Limits.{mostPhrases, mostPlateBytes}
 use Rattle.causes.specs.declared.Cause.{Cause}
 use Rattle.causes.specs.declared.Cause.the-variants.{PlateTooLong, Unused, Spelling, Book}
-use Rattle.bits.specs.Bits.{bitsOf, bytesBits, pack}
+use Rattle.bits.specs.Bits.{bytesBits}
 use Rattle.text.specs.Parts.{all, comma, split, LF}
 use Rattle.text.specs.Utf8.{ascii}
 use Rattle.text.specs.Text.{Text, textSize, textByte, isText, isPlain}
@@ -22,9 +22,9 @@ use Rattle.phrases.specs.Phrases.{Phrases, Where, inBook, inOwn, nowhere, find,
 use Rattle.phrases.specs.Book.{isNext, phrasesFrom, bookPhrases}
 use Rattle.transcript.specs.Statement.{input, inputs, print, printex}
 use Rattle.plate.specs.Program.{Instruction, statement, goto, ifSkip, Program}
-use Rattle.plate.specs.Writing.{ETX, spelledBits, textBitsAt, textBits, textsBits, instructionBits, instructionsBits, programBits, plateBytes}
-use Rattle.plate.specs.Reading.{Place, Read, got, stopped, number, return, many}
-use Rattle.plate.specs.Plate.{upToETX, characters, spelled, phrase, ownCount, ownFrom, isTextCode, textBy, text, options, fieldsBy, instruction}
+use Rattle.plate.specs.Writing.{ETX, textBitsAt, textBits, textsBits, instructionBits, instructionsBits, programBits, plateBytes}
+use Rattle.plate.specs.Reading.{Place, Read, got, stopped, number}
+use Rattle.plate.specs.Plate.{upToETX, characters, spelled, ownFrom, isTextCode, textBy, text, options, fieldsBy, instruction}
 use Rattle.plate.specs.Plate.{program, filling, wholePlate, resultOf, plateProgram}
 use Rattle.plate_before.specs.Text as before
 use Rattle.plate_before.specs.Writing as before-bits
@@ -119,7 +119,7 @@ module _ (c : Phrases) where
   instructions-same (i ∷ is) h =
       rw (instruction-same i (all-first before-bits.isAscii i is h), instructions-same is (all-rest before-bits.isAscii i is h))
 
--- "a program whose texts are all ASCII has the same bits as before"
+-- a program whose texts are all ASCII has the same bits as before
 pub bytes-before : (book : List Text) (p : Program) → all before-bits.isAscii (p .instructions) ≡ true
     → plateBytes book p ≡ before-bits.plateBytes book p
 unfolding plateBytes before-bits.plateBytes programBits before-bits.programBits
@@ -195,7 +195,7 @@ keeps-plate book =
     keeps-then (keeps-many (keeps-instruction (record { book = book; own = own })) n) (λ is. keeps-self _)))))
     (λ p. keeps-self (filling p))
 
--- "a plate accepted before is accepted with the same program"
+-- a plate accepted before is accepted with the same program
 module _ (book : List Text) (plate : List ℕ) (p : Program) where
   abbrev start : Place
   start = record { left = bytesBits plate; at = 0 }

@@ -1,7 +1,7 @@
 -- A reader that keeps what another one reads: the same value, and the same place behind it. Each way to make readers keeps that.
 use Prim.Native.Nat.{ℕ, zero, suc}
-use mathlib.Core.Path.{_≡_, refl, sym, ap, subst, _∙_}
-use mathlib.Core.List.{List, [], _∷_}
+use mathlib.Core.Path.{_≡_, refl, ap, subst, _∙_}
+use mathlib.Core.List.{[], _∷_}
 use mathlib.Core.Bool.{Bool, true, false}
 use Rattle.causes.specs.declared.Cause.{Cause}
 use Rattle.plate.specs.Reading.{Place, Read, got, stopped, Reader, judge, judgeRead, judged, return, onward, _>>=_, many}

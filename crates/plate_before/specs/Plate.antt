@@ -13,7 +13,7 @@ use Rattle.phrases.specs.Phrases.{Phrases, isNew}
 use Rattle.transcript.specs.Statement.{input, inputs, print, printex}
 use Rattle.plate.specs.Program.{Instruction, statement, goto, ifSkip, Program}
 use Rattle.plate.specs.Writing.{ETX}
-use Rattle.plate.specs.Reading.{stopped, Reader, number, judged, return, _>>=_, many}
+use Rattle.plate.specs.Reading.{stopped, Reader, number, judged, return, many, _>>=_}
 use Rattle.plate.specs.Plate.{upToETX, phrase, ownCount, test, skip, filling, resultOf}
 use Rattle.plate_before.specs.Text.{textByte}
 
@@ -21,15 +21,18 @@ use Rattle.plate_before.specs.Text.{textByte}
 abbrev pub character : Reader ℕ
 character = judged (number 7) (λ c. eqb c ETX || textByte c) Spelling
 
+-- characters up to ETX, at most f of them
 unfoldable pub characters : ℕ → Reader Text
 characters zero = λ p. stopped PlateEnds (p .at)
 characters (suc f) = do
   c ← character
   upToETX (eqb c ETX) c (characters f)
 
+-- "text of 0 or over 64, a phrase spelled out or repeated": 14, "judged at its ETX"
 unfoldable pub spelled : List Text → List Text → Reader Text
 spelled book own = judged (λ p. characters (length (p .left)) p) (λ t. textSize t && isNew book own t) Spelling
 
+-- the own phrases, each judged against the book and the earlier ones
 unfoldable pub ownFrom : List Text → List Text → ℕ → Reader (List Text)
 ownFrom book earlier zero = return []
 ownFrom book earlier (suc n) = do
@@ -44,6 +47,7 @@ isTextCode c (suc zero) = false
 isTextCode c (suc (suc zero)) = leb 1 (length (c .book) + length (c .own))
 isTextCode c (suc (suc (suc n))) = false
 
+-- what a text's code calls for: 00 characters, 10 a phrase
 abbrev pub textBy : Phrases → ℕ → Reader Text
 textBy c zero = spelled (c .book) (c .own)
 textBy c (suc n) = phrase (c .book) (c .own)
@@ -54,11 +58,13 @@ text c = do
   code ← judged (number 2) (isTextCode c) Unused
   textBy c code
 
+-- "options less two 3", "an options field of 7": 13
 unfoldable pub options : Phrases → Reader (List Text)
 options c = do
   k ← judged (number 3) (λ k. leb k 6) Unused
   many (λ j. text c) (suc (suc k))
 
+-- the fields behind an instruction's code
 abbrev pub fieldsBy : Phrases → ℕ → ℕ → Reader Instruction
 fieldsBy c behind zero = do
   r ← number 5
@@ -83,11 +89,13 @@ fieldsBy c behind (suc (suc (suc (suc (suc n))))) = do
   k ← skip behind
   return (ifSkip t k)
 
+-- "unused code": 13
 unfoldable pub instruction : Phrases → ℕ → Reader Instruction
 instruction c behind = do
   code ← judged (number 3) (λ k. leb k 5) Unused
   fieldsBy c behind code
 
+-- "n over 512": 13
 unfoldable pub program : List Text → Reader Program
 program book = do
   k ← ownCount
@@ -96,11 +104,13 @@ program book = do
   is ← many (instruction (record { book = book; own = own })) n
   return (record { own = own; instructions = is })
 
+-- a program, and then the filling
 unfoldable pub wholePlate : List Text → Reader Program
 wholePlate book = do
   p ← program book
   filling p
 
+-- "plate over 2,953 bytes": 10, before any field
 unfoldable pub plateProgram : List Text → List ℕ → Result Program
 plateProgram book plate =
     cond (leb (length plate) mostPlateBytes)

@@ -34,5 +34,6 @@ phrasesFrom earlier (t ∷ u ∷ ts) =
       | false ↦ refused Book (suc (length earlier))
     ]
 
+-- the phrases of a book, or cause 1 with its first bad line
 unfoldable pub bookPhrases : List ℕ → Result (List Text)
 bookPhrases book = phrasesFrom [] (split LF book)

@@ -104,9 +104,8 @@ fn produce<'a>(
     )
 }
 
-// The run of an accepted plate. No transcript has more bytes than three times the room of its instructions' lines in a listing, less 4 for each
-// instruction, and 14 for each answer: a buffer of so many is written straight, where three times the room fits a number. Else the run is made
-// on no buffer first, to learn the transcript's length; then 11, or the transcript is written.
+// The run of an accepted plate. No transcript has more bytes than 14 for each answer and three times what is left of the room of its instructions' lines in
+// a listing with 4 less for each instruction: a buffer of so many is written straight. Else the run is made on no buffer first, to learn the transcript's length; then 11, or the transcript is written.
 pub fn write<'a>(
     plate: &[u8],
     index: &'a [u32],

@@ -1,4 +1,4 @@
--- "the steps are now at most the instructions plus two for each inputs"
+-- Document 02, c): "the steps are now at most the instructions plus two for each inputs"
 use Prim.Native.Nat.{ℕ, suc, _+_, _*_}
 use mathlib.Core.List.{List, [], _∷_}
 use lib.ListN.{length}

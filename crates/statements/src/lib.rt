@@ -5,6 +5,7 @@
 // `again`, the caller writes the C line again and tries once more. A caller that writes another line itself then calls `answer` or `leave`.
 // Any text, any answers and any buffer will do. A register is below 32, and one step more must still fit a 64-bit number.
 use causes::Outcome;
+use causes::limits::MORE_TRIES;
 use machine::stepped;
 use transcript::Machine;
 use transcript::Performed;
@@ -135,7 +136,7 @@ pub fn choose(
     registers: &mut [i32; 32],
     register: usize,
     options: usize,
-    wrong: u32,
+    wrong: u8,
     answers: &[i32],
     m: Machine,
 ) -> Tried
@@ -149,7 +150,7 @@ pub fn choose(
             let left = take_answer(out, at, registers, register, answers, m);
             return Tried { left, again: false };
         }
-        if wrong < 2 {
+        if wrong < MORE_TRIES {
             let left = take_wrong(out, at, answers, m);
             return Tried { left, again: true };
         }

@@ -1,8 +1,8 @@
 -- A line is well-formed where each of its fields is.
 use Prim.Native.Nat.{ℕ, _≤_}
-use mathlib.Core.Path.{_≡_, refl, sym, ap, _∙_}
-use mathlib.Core.List.{List, [], _∷_, _++_}
-use mathlib.Core.Bool.{Bool, true, _&&_, and-true}
+use mathlib.Core.Path.{_≡_, sym, ap, _∙_}
+use mathlib.Core.List.{List, [], _∷_}
+use mathlib.Core.Bool.{_&&_, and-true}
 use Rattle.text.specs.Parts.{all, split, join}
 use Rattle.text.proofs.Splits.{Some, split-some, join-split}
 use Rattle.text.specs.Utf8.{wellFormed}

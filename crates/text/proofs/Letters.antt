@@ -1,5 +1,5 @@
 -- Well-formed bytes: joined, parted at an ASCII byte, and of ASCII only.
-use Prim.Native.Nat.{ℕ, _≤_, _<_}
+use Prim.Native.Nat.{ℕ, _≤_}
 use mathlib.Core.Path.{_≡_, refl, sym, ap, _∙_}
 use mathlib.Core.List.{List, [], _∷_, _++_}
 use mathlib.Core.Bool.{Bool, true, false, _&&_, and-assoc, false≢true}
@@ -8,7 +8,7 @@ use borrow.Author.Tests.{leb-true, le-leb}
 use lib.Dec.{leb}
 use Rattle.text.specs.Parts.{all}
 use Rattle.text.proofs.Tests.{and-parts, and-both, all-first, all-rest, all-cons}
-use Rattle.text.specs.Utf8.{Range, within, Letter, letters, begins, lettersBehind, wellFormed, ascii}
+use Rattle.text.specs.Utf8.{Range, within, letters, begins, lettersBehind, wellFormed, ascii}
 use Rattle.text.proofs.Table.{high, high-not, high-byte, Begun, begun, begins-ascii}
 
 -- what a first byte calls for

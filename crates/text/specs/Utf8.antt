@@ -22,7 +22,7 @@ within r b = leb (r .least) b && leb b (r .most)
 abbrev pub tail : Range
 tail = 0x80 to 0xBF
 
--- a letter: the range of its first byte, and those of the bytes behind it
+-- a letter, the RFC's UTF8-char, digits and signs among them: the range of its first byte, and those of the bytes behind it
 pub record Letter : Type 0 where
   pub first : Range
   pub behind : List Range

@@ -1,4 +1,4 @@
--- Characters of a text, 7 bits each, put together as one number.
+-- Characters of a text, 7 or 8 bits each, put together as one number.
 use Prim.Native.Nat.{ℕ, _+_, _-_, _*_, _%_, _^_, _≤_, _<_}
 use native.Mathlib.Omega.{arith}
 use native.Mathlib.Nat.{mod-lt, lt-of-lt-of-le}
@@ -51,6 +51,24 @@ eight-next t i h =
     ∙ character-behind t (i + 5) 35 _ (i + 6) (omega arith) (omega arith)
     ∙ character-behind t (i + 6) 42 _ (i + 7) (omega arith) (omega arith)
     ∙ character-behind t (i + 7) 49 _ (i + 8) (omega arith) (omega arith)
+
+-- seven bytes as one number
+byte-behind : (t : Text) (i w v next : ℕ) → i < length t → next ≡ i + 1
+    → bitsOf w v ++ spelledBits 8 (drop i t) ≡ bitsOf (w + 8) (v * 256 + getD t i 0 % 256) ++ spelledBits 8 (drop next t)
+byte-behind t i w v next h e = rw (spelled-next 8 t i h, ← append-assoc, e, bits-behind w 8 v (getD t i 0)) refl
+
+pub seven-next : (t : Text) (i : ℕ) → i + 6 < length t → spelledBits 8 (drop i t)
+    ≡ bitsOf 56 ((((((getD t i 0 * 256 + getD t (i + 1) 0 % 256) * 256 + getD t (i + 2) 0 % 256) * 256 + getD t (i + 3) 0 % 256) * 256
+    + getD t (i + 4) 0 % 256) * 256 + getD t (i + 5) 0 % 256) * 256 + getD t (i + 6) 0 % 256)
+    ++ spelledBits 8 (drop (i + 7) t)
+seven-next t i h =
+    spelled-next 8 t i (omega arith)
+    ∙ byte-behind t (i + 1) 8 _ (i + 2) (omega arith) (omega arith)
+    ∙ byte-behind t (i + 2) 16 _ (i + 3) (omega arith) (omega arith)
+    ∙ byte-behind t (i + 3) 24 _ (i + 4) (omega arith) (omega arith)
+    ∙ byte-behind t (i + 4) 32 _ (i + 5) (omega arith) (omega arith)
+    ∙ byte-behind t (i + 5) 40 _ (i + 6) (omega arith) (omega arith)
+    ∙ byte-behind t (i + 6) 48 _ (i + 7) (omega arith) (omega arith)
 
 -- what goes before the characters of t from the place i on is the number `value` of `width` bits, with room for the rest in 56 bits
 pub record Gathered (whole : List Bool) (t : Text) (i width value : ℕ) : Type 0 where

@@ -61,13 +61,28 @@ pub fn put_spelled(out: &mut [u8], at: usize, text: &[u8]) -> usize
     put_rest(out, end, 0, 0, text, i)
 }
 
-// The bytes of a text in 8 bits each, then ETX.
+// Seven bytes from the place i on, 8 bits each, as one number.
+fn seven(text: &[u8], i: usize) -> usize
+    requires { ⌜ i + 6 < length (now text) ⌝ }
+    ensures { λ r. ⌜ spelledBits 8 (drop i (now (text .entry))) ≡ bitsOf 56 r ++ spelledBits 8 (drop (i + 7) (now (text .entry))) ⌝ }
+{
+    let a = (text[i] as usize * 256 + text[i + 1] as usize % 256) * 256
+        + text[i + 2] as usize % 256;
+    let b = (a * 256 + text[i + 3] as usize % 256) * 256 + text[i + 4] as usize % 256;
+    (b * 256 + text[i + 5] as usize % 256) * 256 + text[i + 6] as usize % 256
+}
+
+// The bytes of a text in 8 bits each, then ETX: seven bytes at a time, and the last ones by themselves.
 fn put_bytes(out: &mut [u8], at: usize, text: &[u8]) -> usize
     requires { ⌜ length (now out) ≤ mostPlateBytes ⌝ }
     ensures { λ r. ⌜ (r, bytesBits (now (out .exit))) ≡ poured at (spelledBits 8 (now (text .entry))) (bytesBits (now (out .entry))) ⌝ }
 {
     let mut end = at;
     let mut i = 0;
+    while i + 6 < text.len() {
+        end = bits_out::put_bits(out, end, 56, seven(text, i));
+        i += 7;
+    }
     while i < text.len() {
         end = bits_out::put_bits(out, end, 8, text[i] as usize);
         i += 1;

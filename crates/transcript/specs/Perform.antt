@@ -1,4 +1,4 @@
--- Document 01, "Walk": what one statement does. "The rest is as in the walk": the run uses the same.
+-- Documents 01, "Walk", and 02, c): what one statement does. "The rest is as in the walk": the run uses the same.
 use Prim.Native.Nat.{ℕ, suc}
 use mathlib.Core.List.{List, [], _∷_, _++_}
 use mathlib.Core.Bool.{Bool, false, cond}
@@ -7,6 +7,7 @@ use lib.Dec.{ltb}
 use lib.IntN.{ℤ, pos, negsuc}
 use Rattle.causes.specs.Answers.{ended, Output}
 use Rattle.causes.specs.Causes.{outcomeNumber, wrongAnswers}
+use Rattle.causes.specs.Limits.{moreTries}
 use Rattle.causes.specs.declared.Outcome.{Outcome}
 use Rattle.causes.specs.declared.Outcome.the-variants.{Verdict, End, Waiting, Outside}
 use Rattle.text.specs.Text.{Text}
@@ -82,7 +83,7 @@ choose r t options wrong (a ∷ rest) s =
     cond
     (isOption (length options) a)
     (goesOn (takeAnswer r a rest s))
-    (cond (ltb wrong 2) (choose r t options (suc wrong) rest (offer t options (takeWrong a rest s))) (outside s))
+    (cond (ltb wrong moreTries) (choose r t options (suc wrong) rest (offer t options (takeWrong a rest s))) (outside s))
 
 -- "Each input, inputs, print, printex .. met is one step"; "The Q or C line is written before the answer is looked for"
 unfoldable pub perform : Statement → State → Ending

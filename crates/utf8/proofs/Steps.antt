@@ -2,14 +2,14 @@
 use Prim.Native.Nat.{ℕ, zero, suc, _+_, _-_, _≤_, _<_}
 use mathlib.Core.Path.{_≡_, refl, sym, ap, _∙_}
 use mathlib.Core.List.{List, [], _∷_}
-use mathlib.Core.Bool.{Bool, true, false, _&&_}
+use mathlib.Core.Bool.{true, false}
 use native.Mathlib.Numerals.{add-one}
 use native.Mathlib.Omega.{arith}
 use lib.ListN.{length, take, drop, getD, replicate, take-append-drop, drop-of-length-le}
 use lib.Seq.{drop-cons, drop-drop}
 use lib.Dec.{eqb, eqb·suc-zero}
 use Rattle.text.specs.Parts.{all}
-use Rattle.text.specs.Utf8.{Range, _to_, tail, within, letters, begins, lettersBehind, wellFormed, ascii}
+use Rattle.text.specs.Utf8.{Range, tail, within, letters, begins, lettersBehind, wellFormed, ascii, _to_}
 use Rattle.utf8.specs.declared.Step.{Step}
 use Rattle.utf8.specs.declared.Step.the-variants.{On, Wrong}
 use Rattle.utf8.specs.Due.{ranges, stepOf, onStep}

@@ -4,19 +4,15 @@ use Rattle.doorplate.proofs.Values.{written-is}
 use Rattle.doorplate.proofs.doorplate_read_plate.Statement.{statement}
 use Rattle.doorplate.proofs.doorplate_read_plate.Tie as tie
 
--- src/lib.rt:112:20
 read-plate-requires : tie.Need-read-plate-requires
 read-plate-requires c κs = search needs
 
--- src/lib.rt:112:5
 written-values-requires : tie.Need-written-values-requires
 written-values-requires c κs = search needs
 
--- src/lib.rt:104:1
 same-length : tie.Need-same-length
 same-length c = search needs
 
--- src/lib.rt:104:1
 returns : tie.Need-returns
 returns c = written-is (c .before .before .before .read-plate .ensures) (c .written-values .ensures)
 

@@ -4,23 +4,18 @@ use Rattle.doorplate.proofs.Values.{ran-is}
 use Rattle.doorplate.proofs.doorplate_run.Statement.{statement}
 use Rattle.doorplate.proofs.doorplate_run.Tie as tie
 
--- src/lib.rt:140:16
 run-requires : tie.Need-run-requires
 run-requires c κs = search needs
 
--- src/lib.rt:140:5
 ran-values-requires : tie.Need-ran-values-requires
 ran-values-requires c κs = search needs
 
--- src/lib.rt:129:1
 same-length : tie.Need-same-length
 same-length c = search needs
 
--- src/lib.rt:129:1
 same-length-2 : tie.Need-same-length-2
 same-length-2 c = search needs
 
--- src/lib.rt:129:1
 returns : tie.Need-returns
 returns c = (ran-is (c .before .before .before .before .before .run .ensures .0) (c .ran-values .ensures), c .before .before .before .before .before .run .ensures .1)
 

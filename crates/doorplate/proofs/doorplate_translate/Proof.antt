@@ -4,19 +4,15 @@ use Rattle.doorplate.proofs.Values.{written-is}
 use Rattle.doorplate.proofs.doorplate_translate.Statement.{statement}
 use Rattle.doorplate.proofs.doorplate_translate.Tie as tie
 
--- src/lib.rt:88:20
 translate-requires : tie.Need-translate-requires
 translate-requires c κs = search needs
 
--- src/lib.rt:88:5
 written-values-requires : tie.Need-written-values-requires
 written-values-requires c κs = search needs
 
--- src/lib.rt:84:1
 same-length : tie.Need-same-length
 same-length c = search needs
 
--- src/lib.rt:84:1
 returns : tie.Need-returns
 returns c = written-is (c .before .before .before .translate .ensures) (c .written-values .ensures)
 

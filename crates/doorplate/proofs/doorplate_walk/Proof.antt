@@ -4,19 +4,15 @@ use Rattle.doorplate.proofs.Values.{ran-is}
 use Rattle.doorplate.proofs.doorplate_walk.Statement.{statement}
 use Rattle.doorplate.proofs.doorplate_walk.Tie as tie
 
--- src/lib.rt:125:16
 walk-requires : tie.Need-walk-requires
 walk-requires c κs = search needs
 
--- src/lib.rt:125:5
 ran-values-requires : tie.Need-ran-values-requires
 ran-values-requires c κs = search needs
 
--- src/lib.rt:116:1
 same-length : tie.Need-same-length
 same-length c = search needs
 
--- src/lib.rt:116:1
 returns : tie.Need-returns
 returns c = ran-is (c .before .before .before .walk .ensures) (c .ran-values .ensures)
 

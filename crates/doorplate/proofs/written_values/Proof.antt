@@ -4,23 +4,18 @@ use Rattle.doorplate.proofs.Values.{wrote, not-written}
 use Rattle.doorplate.proofs.written_values.Statement.{statement}
 use Rattle.doorplate.proofs.written_values.Tie as tie
 
--- src/lib.rt:37:31
 enum-known-answer : tie.Need-enum-known-answer
 enum-known-answer c = search needs
 
--- src/lib.rt:42:34
 enum-known-answer-2 : tie.Need-enum-known-answer-2
 enum-known-answer-2 c = search needs
 
--- src/lib.rt:45:25
 number-of-requires : tie.Need-number-of-requires
 number-of-requires c κs = search needs
 
--- src/lib.rt:33:1
 returns : tie.Need-returns
 returns c = wrote (c .before .answer .given .1)
 
--- src/lib.rt:33:1
 returns-2 : tie.Need-returns-2
 returns-2 c = not-written (c .before .before .answer2 .given .1) (c .number-of .ensures)
 

@@ -1,7 +1,6 @@
 -- `are_ascii` meets its contract. The loop's invariant: the flag is the test of the bytes passed.
 use borrow.Author.Needs.{needs}
 use Prim.Native.Nat.{_≤_, _-_}
-use mathlib.Core.Path.{sym, _∙_}
 use mathlib.Core.Logic.{⊎-elim}
 use mathlib.Core.Bool.{and-false}
 use lib.ListN.{take, drop}

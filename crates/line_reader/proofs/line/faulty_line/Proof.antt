@@ -1,5 +1,5 @@
 -- `faulty_line` meets its contract: the bytes, then the letters.
-use mathlib.Core.Path.{refl, sym, _∙_}
+use mathlib.Core.Path.{sym, _∙_}
 use borrow.Author.Needs.{needs}
 use Rattle.line_reader.proofs.line.faulty_line.Statement.{statement}
 use Rattle.line_reader.proofs.line.faulty_line.Tie as tie

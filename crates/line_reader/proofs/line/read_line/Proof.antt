@@ -4,7 +4,7 @@ use mathlib.Core.Bool.{cond}
 use lib.Seq.{length-take-le}
 use borrow.Author.Needs.{needs}
 use Rattle.causes.specs.declared.Cause.the-variants.{Byte}
-use Rattle.text.specs.Parts.{split, comma, all}
+use Rattle.text.specs.Parts.{split, comma}
 use Rattle.text.specs.Text.{allowedLine}
 use Rattle.lines.specs.declared.Head.the-variants.{Faulty}
 use Rattle.lines.specs.Line.{fieldsLine}

@@ -1,4 +1,4 @@
--- `read_character` meets its contract: a number of 7 bits, judged.
+-- `read_character` meets its contract: a number of so many bits, judged.
 use mathlib.Core.Path.{sym, _∙_}
 use borrow.Author.Needs.{needs}
 use Rattle.fields.proofs.Onward.{judged-got, judged-not}

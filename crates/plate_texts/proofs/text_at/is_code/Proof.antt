@@ -1,5 +1,4 @@
 -- `is_code` meets its contract.
-use mathlib.Core.Path.{refl}
 use borrow.Author.Needs.{needs}
 use Rattle.plate_texts.proofs.TextsRead.{unused-code}
 use Rattle.plate_texts.proofs.text_at.is_code.Statement.{statement}

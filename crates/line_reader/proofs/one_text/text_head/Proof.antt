@@ -1,7 +1,7 @@
 -- `text_head` meets its contract, by what was found.
 use borrow.Author.Needs.{needs}
-use Rattle.line_reader.proofs.fields.text_head.Statement.{statement}
-use Rattle.line_reader.proofs.fields.text_head.Tie as tie
+use Rattle.line_reader.proofs.one_text.text_head.Statement.{statement}
+use Rattle.line_reader.proofs.one_text.text_head.Tie as tie
 
 enum-told : tie.Need-enum-told
 enum-told c = search needs

@@ -1,5 +1,5 @@
 -- `judge_own` meets its contract: a text, then ASCII alone.
-use mathlib.Core.Path.{_≡_, refl, sym, ap, _∙_}
+use mathlib.Core.Path.{_≡_, sym, ap, _∙_}
 use mathlib.Core.Bool.{true, false}
 use Prim.Native.Nat.{ℕ}
 use mathlib.Core.List.{List}
@@ -10,8 +10,8 @@ use Rattle.text.proofs.Places.{parts-none}
 use Rattle.lines.specs.Answers.{headOf}
 use Rattle.lines.proofs.FieldPlaces.{whole-rest, text-good, text-more, text-bad, text-unfit}
 use borrow.Author.Needs.{needs}
-use Rattle.line_reader.proofs.fields.judge_own.Statement.{statement}
-use Rattle.line_reader.proofs.fields.judge_own.Tie as tie
+use Rattle.line_reader.proofs.one_text.judge_own.Statement.{statement}
+use Rattle.line_reader.proofs.one_text.judge_own.Tie as tie
 
 not-own : (t : List ℕ) → isText t ≡ true → isPlain t ≡ false → isOwnText t ≡ false
 not-own t h k = rw (h, k)

@@ -6,8 +6,8 @@ use Rattle.text.proofs.Places.{parts-none}
 use Rattle.lines.specs.Answers.{headOf}
 use Rattle.text.specs.Text.{isText}
 use Rattle.lines.proofs.FieldPlaces.{whole-rest, text-good, text-more, text-bad}
-use Rattle.line_reader.proofs.fields.judge_text.Statement.{statement}
-use Rattle.line_reader.proofs.fields.judge_text.Tie as tie
+use Rattle.line_reader.proofs.one_text.judge_text.Statement.{statement}
+use Rattle.line_reader.proofs.one_text.judge_text.Tie as tie
 
 returns : tie.Need-returns
 returns c =

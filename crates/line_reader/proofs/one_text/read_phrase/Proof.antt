@@ -3,8 +3,8 @@ use mathlib.Core.Path.{refl, _∙_}
 use borrow.Author.Needs.{needs}
 use Rattle.causes.specs.declared.Cause.the-variants.{Phrase}
 use Rattle.lines.specs.Line.{phrase, faulty}
-use Rattle.line_reader.proofs.fields.read_phrase.Statement.{statement}
-use Rattle.line_reader.proofs.fields.read_phrase.Tie as tie
+use Rattle.line_reader.proofs.one_text.read_phrase.Statement.{statement}
+use Rattle.line_reader.proofs.one_text.read_phrase.Tie as tie
 
 enum-told : tie.Need-enum-told
 enum-told c = search needs

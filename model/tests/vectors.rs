@@ -26,7 +26,7 @@ fn crates_have_these_files() {
         if !name.starts_with("vectors_") || !path.join("src/main.rt").exists() {
             continue;
         }
-        let set = Set::all().into_iter().find(|set| set.crate_name() == name);
+        let set = Set::ALL.into_iter().find(|set| set.crate_name() == name);
         let set = set.unwrap_or_else(|| panic!("the model writes no {name}"));
         for (file, bytes) in set.files().named() {
             let stored = fs::read(path.join(file)).unwrap_or_else(|e| panic!("{name}/{file}: {e}"));
@@ -70,19 +70,29 @@ fn read_vector(cursor: &mut Cursor, call: Call) -> Vector {
     Vector { lent, input, book, answers, scratch }
 }
 
-/// The cases read from each stdin give the lines of its stdout.
+/// The cases read from stdin, which are all cases of each call in turn, give the lines of stdout.
 #[test]
 fn stdin_gives_stdout() {
-    for call in Call::ALL {
-        let files = Set::Call(call).files();
-        let mut cursor = Cursor::new(&files.stdin);
-        let mut stdout = String::new();
-        while !cursor.is_at_end() {
-            stdout += &read_vector(&mut cursor, call).answer(call);
-        }
-        assert_eq!(stdout.lines().count(), collect(call).len());
-        assert!(stdout.as_bytes() == files.stdout);
+    let files = Set::Call.files();
+    let mut cursor = Cursor::new(&files.stdin);
+    let (mut calls, mut stdout) = (Vec::new(), String::new());
+    while !cursor.is_at_end() {
+        let call = Call::ALL[cursor.number()];
+        calls.push(call);
+        stdout += &read_vector(&mut cursor, call).answer(call);
     }
+    let of_call = |call| vec![call; collect(call).len()];
+    assert_eq!(calls, Call::ALL.map(of_call).concat());
+    assert_eq!(stdout.lines().count(), calls.len());
+    assert!(stdout.as_bytes() == files.stdout);
+}
+
+/// The numbers of the calls, as README.md states them.
+#[test]
+fn numbers_of_calls() {
+    let calls = [Call::Translate, Call::WritePlate, Call::ReadPlate, Call::Walk, Call::Run];
+    assert_eq!(calls.map(Call::number), [0, 1, 2, 3, 4]);
+    assert_eq!(Call::ALL, calls);
 }
 
 /// Some lines of the format, by hand.
@@ -108,10 +118,12 @@ fn lines_of_answers() {
 /// The sizes that the vector programs rely on, as README.md states them.
 #[test]
 fn sizes() {
-    for call in Call::ALL {
-        let files = Set::Call(call).files();
-        assert!(files.stdin.len() < 2_500_000);
+    for (set, limit) in [(Set::Call, 7_000_000), (Set::Agree, 2_500_000)] {
+        let files = set.files();
+        assert!(files.stdin.len() < limit);
         assert!(files.stdout.len() < 1_500_000);
+    }
+    for call in Call::ALL {
         for vector in collect(call) {
             assert!(vector.lent <= 327_680);
             assert!(vector.input.len() <= 327_681);

@@ -1,1 +1,5 @@
 pub mod Input
+pub mod Lent
+pub mod Sums
+pub mod Lines
+pub mod Front

@@ -52,7 +52,7 @@ fn same_answer(a: Ran, b: Ran) -> bool {
 fn compare(line: &mut [u8], walked: Ran, transcript: &[u8], ran: Ran, other: &[u8]) -> usize {
     if same_answer(walked, ran) {
         if text_parts::same(transcript, other) {
-            return vectors_lines::put_ran(line, 0, walked, transcript);
+            return vectors::put_ran(line, 0, walked, transcript);
         }
     }
     text_out::put(line, 0, b"D\n")
@@ -70,7 +70,7 @@ fn call(
     let mut plate = [0u8; PLATE_BYTES];
     let mut scratch = [0u16; run::SCRATCH_NUMBERS];
     if let Written::Refused(r) = translate::translate(guide, book, &mut plate) {
-        return vectors_lines::put_written(line, 0, Written::Refused(r), &[]);
+        return vectors::put_written(line, 0, Written::Refused(r), &[]);
     }
     let walked = walk::walk(guide, book, answers, first);
     let ran = agreement::translate_and_run(guide, book, &mut plate, answers, &mut scratch, second);
@@ -79,9 +79,9 @@ fn call(
 
 // The same with a second output as long as the first, and with its content; and the line, which has fewer than 256 bytes.
 fn twice(guide: &[u8], book: &[u8], answers: &[i32], first: &mut [u8], other: &mut [u8]) {
-    let lent = vectors_buffer::lent(other, first.len());
+    let lent = vectors::lent(other, first.len());
     let second = &mut other[..lent];
-    vectors_buffer::fill(second);
+    vectors::fill(second);
     let mut line = [0; 256];
     let end = call(&mut line, guide, book, answers, first, second);
     io::write_all(STDOUT_FILENO, front(&line, end));
@@ -95,11 +95,11 @@ fn case(
     out: &mut [u8],
     other: &mut [u8],
 ) -> bool {
-    let c = vectors_calls::read_case(input, book, out);
+    let c = vectors::read_case(input, book, out);
     if !c.more {
         return false;
     }
-    let count = vectors_calls::read_answers(answers);
+    let count = vectors::read_answers(answers);
     let first = c.input;
     let second = c.book;
     let lent = c.lent;
@@ -125,10 +125,10 @@ fn cases(input: &mut [u8], book: &mut [u8], answers: &mut [i32], out: &mut [u8],
 }
 
 fn main() {
-    let mut input = vectors_spaces::input_space();
-    let mut book = vectors_spaces::book_space();
-    let mut answers = vectors_spaces::answers_space();
-    let mut out = vectors_spaces::lent_space();
-    let mut other = vectors_spaces::lent_space();
+    let mut input = vectors::input_space();
+    let mut book = vectors::book_space();
+    let mut answers = vectors::answers_space();
+    let mut out = vectors::lent_space();
+    let mut other = vectors::lent_space();
     cases(&mut input, &mut book, &mut answers, &mut out, &mut other);
 }

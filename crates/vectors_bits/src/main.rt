@@ -49,17 +49,17 @@ fn eight_case(line: &mut [u8], s: &[u8], start: usize) -> usize {
 fn write_number(line: &mut [u8], out: &mut [u8], place: usize, width: usize, value: usize) -> usize
     requires { ⌜ width ≤ 56 ⌝ }
 {
-    vectors_buffer::fill(out);
+    vectors::fill(out);
     let behind = bits_out::put_bits(out, place, width, value);
     let end = text_out::put_natural(line, 0, behind);
     let end = text_out::put_byte(line, end, b',');
-    let end = vectors_buffer::put_buffer(line, end, out);
+    let end = vectors::put_buffer(line, end, out);
     text_out::put_byte(line, end, b'\n')
 }
 
 // A case that writes, into the bytes of `space` that it lends.
 fn write_case(line: &mut [u8], s: &[u8], at: usize, space: &mut [u8]) -> usize {
-    let length = vectors_buffer::lent(space, vectors::number(s, at));
+    let length = vectors::lent(space, vectors::number(s, at));
     let place = vectors::long_number(s, vectors::past(at, 4));
     let width = vectors::number(s, vectors::past(at, 12));
     let value = vectors::long_number(s, vectors::past(at, 16));
@@ -104,7 +104,7 @@ fn cases(s: &[u8], space: &mut [u8], line: &mut [u8]) {
 }
 
 fn main() {
-    let mut input = vectors_spaces::cases_space();
+    let mut input = vectors::cases_space();
     let mut space = io::buffer();
     let mut line = io::buffer();
     let count = io::read_full(STDIN_FILENO, &mut input);

@@ -168,7 +168,7 @@ fn cases(s: &[u8], line: &mut [u8]) {
 
 // The longest line has 129 bytes. A longer one than the buffer would be cut off, and differ.
 fn main() {
-    let mut input = vectors_spaces::cases_space();
+    let mut input = vectors::cases_space();
     let mut line = io::large_buffer();
     let count = io::read_full(STDIN_FILENO, &mut input);
     cases(&input[..count], &mut line);

@@ -24,7 +24,7 @@ fn guides(s: &[u8]) {
 }
 
 fn main() {
-    let mut input = vectors_spaces::cases_space();
+    let mut input = vectors::cases_space();
     let count = io::read_full(STDIN_FILENO, &mut input);
     guides(&input[..count]);
 }

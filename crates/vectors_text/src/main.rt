@@ -110,7 +110,7 @@ fn read_letters(line: &mut [u8], s: &[u8], at: usize) -> usize {
 fn put_line(line: &mut [u8], place: usize, out: &[u8]) -> usize {
     let end = text_out::put_natural(line, 0, place);
     let end = text_out::put_byte(line, end, b',');
-    let end = vectors_buffer::put_buffer(line, end, out);
+    let end = vectors::put_buffer(line, end, out);
     text_out::put_byte(line, end, b'\n')
 }
 
@@ -125,10 +125,10 @@ fn put_value(s: &[u8], kind: usize, at: usize, out: &mut [u8], place: usize) -> 
 
 // A case that writes, into the bytes of `space` that it lends.
 fn put_case(line: &mut [u8], s: &[u8], kind: usize, at: usize, space: &mut [u8]) -> usize {
-    let length = vectors_buffer::lent(space, vectors::number(s, at));
+    let length = vectors::lent(space, vectors::number(s, at));
     let place = vectors::long_number(s, vectors::past(at, 4));
     let out = &mut space[..length];
-    vectors_buffer::fill(out);
+    vectors::fill(out);
     let behind = put_value(s, kind, vectors::past(at, 12), out, place);
     put_line(line, behind, out)
 }
@@ -178,7 +178,7 @@ fn cases(s: &[u8], space: &mut [u8], line: &mut [u8]) {
 
 // The longest line has 150 bytes. A longer one than the buffer would be cut off, and differ.
 fn main() {
-    let mut input = vectors_spaces::cases_space();
+    let mut input = vectors::cases_space();
     let mut space = io::buffer();
     let mut line = io::large_buffer();
     let count = io::read_full(STDIN_FILENO, &mut input);

@@ -4,7 +4,7 @@
 //! - `vectors --check DIR [NAME..]` compares those files with the model's;
 //! - `vectors --table` prints the lengths and checksums of all files.
 //!
-//! A name is that of a call, or `agree`, `bits`, `text`, `phrases` or `show`. Without names it takes all.
+//! A name is `call`, `agree`, `bits`, `text`, `phrases` or `show`. Without names it takes all.
 
 use model::vectors::{self, Set};
 use std::path::Path;
@@ -40,7 +40,7 @@ fn main() -> ExitCode {
 /// The sets of these names, or all without names.
 fn chosen(names: &[&str]) -> Result<Vec<Set>, String> {
     if names.is_empty() {
-        return Ok(Set::all());
+        return Ok(Set::ALL.to_vec());
     }
     let sets: Option<Vec<Set>> = names.iter().map(|name| Set::of_name(name)).collect();
     sets.ok_or(USAGE.to_owned())

@@ -15,6 +15,11 @@ impl Call {
     pub const ALL: [Call; 5] =
         [Call::Translate, Call::WritePlate, Call::ReadPlate, Call::Walk, Call::Run];
 
+    /// The number that a case of the call begins with: the call's place in [`Call::ALL`].
+    pub fn number(self) -> usize {
+        self as usize
+    }
+
     pub fn name(self) -> &'static str {
         match self {
             Call::Translate => "translate",

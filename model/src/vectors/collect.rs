@@ -1,4 +1,4 @@
-//! The cases of each vector program: those at the limits, then random ones.
+//! The cases of each call: those at the limits, then random ones.
 
 use super::{Call, Vector};
 use crate::cases::records::{self, RecordCase};

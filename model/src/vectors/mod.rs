@@ -44,7 +44,7 @@ impl Files {
 /// A line for each file: its name, its length and its checksum.
 pub fn table() -> String {
     let mut table = String::new();
-    for set in Set::all() {
+    for set in Set::ALL {
         for (name, bytes) in set.files().named() {
             let [length, checksum] = [bytes.len() as u64, fnv_1a(bytes)];
             table += &format!("{}/{name} {length} {checksum:016X}\n", set.crate_name());

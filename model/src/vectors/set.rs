@@ -1,13 +1,13 @@
-//! The vector programs: one for each call, one for the agreement of run and walk, and one each for
-//! bits, text, phrases and show.
+//! The vector programs: one for the five calls, one for the agreement of run and walk, and one each
+//! for bits, text, phrases and show.
 
-use super::{bits, collect, phrases, show, text, Call, Files};
+use super::{bits, collect, phrases, show, stdin, text, Call, Files, Vector};
 use crate::refusal::Refusal;
 use crate::translate;
 
 #[derive(Clone, Copy, Debug, PartialEq, Eq)]
 pub enum Set {
-    Call(Call),
+    Call,
     Agree,
     Bits,
     Text,
@@ -16,18 +16,16 @@ pub enum Set {
 }
 
 impl Set {
-    pub fn all() -> Vec<Set> {
-        let others = [Set::Agree, Set::Bits, Set::Text, Set::Phrases, Set::Show];
-        Call::ALL.into_iter().map(Set::Call).chain(others).collect()
-    }
+    pub const ALL: [Set; 6] =
+        [Set::Call, Set::Agree, Set::Bits, Set::Text, Set::Phrases, Set::Show];
 
     pub fn of_name(name: &str) -> Option<Set> {
-        Set::all().into_iter().find(|set| set.name() == name)
+        Set::ALL.into_iter().find(|set| set.name() == name)
     }
 
     pub fn name(self) -> &'static str {
         match self {
-            Set::Call(call) => call.name(),
+            Set::Call => "call",
             Set::Agree => "agree",
             Set::Bits => "bits",
             Set::Text => "text",
@@ -43,9 +41,10 @@ impl Set {
     /// What the program reads and has to write.
     pub fn files(self) -> Files {
         match self {
-            Set::Call(call) => Files::of(&collect(call), |vector, stdin| {
-                vector.write(call, stdin);
-                vector.answer(call)
+            Set::Call => Files::of(&of_all_calls(), |(call, vector), stdin| {
+                stdin::number(stdin, call.number());
+                vector.write(*call, stdin);
+                vector.answer(*call)
             }),
             Set::Agree => Files::of(&collect(Call::Walk), |vector, stdin| {
                 vector.write(Call::Walk, stdin);
@@ -72,4 +71,10 @@ impl Set {
             }),
         }
     }
+}
+
+/// The cases of the five calls, one call behind the other.
+fn of_all_calls() -> Vec<(Call, Vector)> {
+    let of_call = |call| collect(call).into_iter().map(move |vector| (call, vector));
+    Call::ALL.into_iter().flat_map(of_call).collect()
 }

@@ -2,7 +2,7 @@
 -- bytes for each answer: `print,TEXT` writes `S,TEXT`, the lines of the other statements have more bytes still, a C line is written at most three
 -- times, and an A line has at most 14.
 use Prim.Native.Nat.{ℕ, zero, suc, _+_, _*_, _≤_, _<_}
-use mathlib.Core.Path.{_≡_}
+use mathlib.Core.Path.{_≡_, refl}
 use mathlib.Core.List.{List, [], _∷_}
 use mathlib.Core.Bool.{cond}
 use native.Mathlib.Omega.{arith}
@@ -25,7 +25,7 @@ use Rattle.machine.specs.Ranged.{Ranged}
 use Rattle.machine.proofs.Follow.{lay-bytes}
 use Rattle.machine.proofs.Passes.{whole}
 use Rattle.statements.proofs.Performs.{firstLine}
-use Rattle.statements.proofs.Rooms.{stateRoom, perform-room, answers-room}
+use Rattle.statements.proofs.Rooms.{stateRoom, perform-room, perform-once, answers-room}
 use Rattle.phrases.specs.Lookup.{phrasesIn}
 use Rattle.plate.specs.Program.{Instruction, statement, goto, ifSkip}
 use Rattle.plate.specs.Plate.{instruction}
@@ -80,6 +80,27 @@ run-room (goto skip ∷ xs) zero s = omega (arith, run-room xs skip (step s), so
 run-room (ifSkip test skip ∷ xs) zero s =
     omega (arith, run-room xs (cond (holds test s) 0 skip) (step s), some-room (ifSkip test skip))
 
+-- with no answers
+abbrev Once : ℕ → State → List Instruction → Ending → Type 0
+Once n s xs e = length (transcriptBytes (stateOf e .transcript)) + 4 * n ≤ length (transcriptBytes (s .transcript)) + linesRoom xs
+
+run-once : (xs : List Instruction) (over : ℕ) (s : State) → s .left ≡ [] → Once (length xs) s xs (run xs over s)
+unfolding run
+run-once [] over s h = omega arith
+run-once (x ∷ xs) (suc over) s h = omega (arith, run-once xs over s h, some-room x)
+run-once (statement x ∷ xs) zero s h = go (perform x s) (perform-once s h x) (λ u k. run-once xs 0 u k)
+  where
+    go : (e : Ending)
+        → (length (transcriptBytes (stateOf e .transcript)) ≤ length (transcriptBytes (s .transcript)) + length (lineBytes (firstLine x))) × (stateOf e .left ≡ [])
+        → ((u : State) → u .left ≡ [] → Once (length xs) u xs (run xs 0 u)) → Once (suc (length xs)) s (statement x ∷ xs) (andThen e (run xs 0))
+    go (goesOn u) g rest = omega (arith, g .0, rest u (g .1), line-short x)
+    go (verdict u) g rest = omega (arith, g .0, many-room xs, line-short x)
+    go (waits wrong u) g rest = omega (arith, g .0, many-room xs, line-short x)
+    go (outside u) g rest = omega (arith, g .0, many-room xs, line-short x)
+run-once (goto skip ∷ xs) zero s h = omega (arith, run-once xs skip (step s) h, some-room (goto skip))
+run-once (ifSkip test skip ∷ xs) zero s h =
+    omega (arith, run-once xs (cond (holds test s) 0 skip) (step s) h, some-room (ifSkip test skip))
+
 -- ---- what is written
 
 -- the first pass has found the length
@@ -90,6 +111,11 @@ second e answers rs us p q x b o out h k l f =
     let new = transcriptBytes (stateOf e .transcript) in
     whole us answers e q o out k us q o out k
     (omega (arith, ended 0 new b (p .end) x (lay-bytes rs answers p x 0 e b h), ended 0 new out (q .end) o (lay-bytes us answers q o 0 e out k))) f
+
+-- no answers
+none-of : (answers : List ℤ) → length answers ≡ 0 → answers ≡ []
+none-of [] e = refl
+none-of (a ∷ rest) e = absurd (omega arith)
 
 -- ---- a plate's run
 
@@ -103,7 +129,19 @@ module _ (plate index book own : List ℕ) (c : Contents) (a : Accepted plate in
       let n = there-length (instruction (phrasesIn book own (c .own))) plate (a .stands .whole) in
       omega (arith, n, run-room (programAt plate book own c .instructions) 0 (start answers), answers-room answers f)
 
-  -- a buffer that holds so many bytes needs no first pass
+  -- a buffer that holds so many bytes needs no first pass: with no answers
+  pub straight-once : (rs : List ℤ) (p : Performed) (o out : List ℕ) → performed rs answers p o ≡ laid 0 ending out
+      → length answers ≡ 0 → c .room ≤ length out + 4 * c .instructions → length out < 9223372036854775808
+      → (result.ended (p .end) (outcomeNumber (p .outcome)) (p .machine .taken) (p .machine .steps) (wrongAnswers (p .outcome)), o) ≡ lent (made (report ending)) out
+  unfolding programAt instructionsAt start transcriptBytes
+  straight-once rs p o out k m h l =
+      let new = transcriptBytes (stateOf ending .transcript) in
+      let n = there-length (instruction (phrasesIn book own (c .own))) plate (a .stands .whole) in
+      let once = run-once (programAt plate book own c .instructions) 0 (start answers) (none-of answers m) in
+      whole rs answers ending p o out k rs p o out k
+      (omega (arith, n, once, a .stands .few, a .stands .counted, ended 0 new out (p .end) o (lay-bytes rs answers p o 0 ending out k))) l
+
+  -- with some
   pub straight : (rs : List ℤ) (p : Performed) (o out : List ℕ) → performed rs answers p o ≡ laid 0 ending out
       → c .room ≤ 16777216 → 3 * c .room + 14 * length answers ≤ length out + 12 * c .instructions → length out < 9223372036854775808
       → (result.ended (p .end) (outcomeNumber (p .outcome)) (p .machine .taken) (p .machine .steps) (wrongAnswers (p .outcome)), o) ≡ lent (made (report ending)) out

@@ -104,8 +104,9 @@ fn produce<'a>(
     )
 }
 
-// The run of an accepted plate. No transcript has more bytes than 14 for each answer and three times what is left of the room of its instructions' lines in
-// a listing with 4 less for each instruction: a buffer of so many is written straight. Else the run is made on no buffer first, to learn the transcript's length; then 11, or the transcript is written.
+// The run of an accepted plate. No transcript has more bytes than 14 for each answer and three times what is left of the room of its
+// instructions' lines in a listing with 4 less for each instruction; where there are no answers, each line comes once. A buffer of so many is
+// written straight. Else the run is made on no buffer first, to learn the transcript's length; then 11, or the transcript is written.
 pub fn write<'a>(
     plate: &[u8],
     index: &'a [u32],
@@ -121,6 +122,11 @@ pub fn write<'a>(
     machine::see_answers(answers);
     let n = c.instructions;
     let room = c.room;
+    if answers.len() == 0 {
+        if room <= transcript.len() + 4 * n {
+            return machine::report_of(produce(plate, index, book, own, c, answers, transcript));
+        }
+    }
     if answers.len() <= 65536 {
         if room <= 16777216 {
             if 3 * room + 14 * answers.len() <= transcript.len() + 12 * n {

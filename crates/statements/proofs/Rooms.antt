@@ -13,7 +13,7 @@ use Rattle.text.specs.Parts.{join}
 use Rattle.decimals.proofs.Constants.{decimal-short}
 use Rattle.transcript.specs.Statement.{Statement, input, inputs, print, printex}
 use Rattle.transcript.specs.State.{TranscriptLine, asked, offered, answered, shown, ruled, State, step, writeLine, lineBytes, transcriptBytes}
-use Rattle.transcript.specs.Perform.{goesOn, outside, takeAnswer, isOption, takeWrong, offer, choose, perform, stateOf}
+use Rattle.transcript.specs.Perform.{Ending, goesOn, outside, takeAnswer, isOption, takeWrong, offer, choose, perform, stateOf}
 use Rattle.transcript.specs.Perform as perform
 use Rattle.machine.specs.Ranged.{Ranged}
 use Rattle.machine.proofs.Ranges.{ranged-rest}
@@ -36,6 +36,10 @@ line-more t l = ap length (bytes-append t (l ∷ [])) ∙ simp (length-append, b
 answer-room : (r : ℕ) (left : List ℤ) (s : State) → s .left ≡ left → stateRoom (stateOf (perform.answer r left s)) ≤ stateRoom s
 answer-room r [] s e = omega arith
 answer-room r (a ∷ rest) s e = rw e (omega (arith, line-more (s .transcript) (answered a)))
+
+-- some answers are not none
+some-none : {a : ℤ} {rest : List ℤ} → (a ∷ rest) ≡ [] → ⊥
+some-none e = let z : _≡_ {A = ℕ} 0 1 = omega (arith, ap length e) in omega arith
 
 -- a try less
 pub one-less : (wrong l : ℕ) → ltb wrong 2 ≡ true → (2 - wrong) * l ≡ l + (2 - suc wrong) * l
@@ -71,6 +75,29 @@ perform-room (input r t) s = omega (arith, answer-room r (s .left) (writeLine (a
 perform-room (inputs r t os) s = omega (arith, choose-room r t os 0 (s .left) (offer t os s) refl, line-more (s .transcript) (offered t os))
 perform-room (print t) s = omega (arith, line-more (s .transcript) (shown t))
 perform-room (printex t) s = omega (arith, line-more (s .transcript) (ruled t))
+
+-- with no answer left its line comes once, and none is left behind it
+module _ (s : State) (none-left : s .left ≡ []) where
+  abbrev Once : Statement → Ending → Type 0
+  Once x e =
+      (length (transcriptBytes (stateOf e .transcript)) ≤ length (transcriptBytes (s .transcript)) + length (lineBytes (firstLine x)))
+      × (stateOf e .left ≡ [])
+
+  asked-once : (r : ℕ) (t : Text) (left : List ℤ) → left ≡ [] → Once (input r t) (perform.answer r left (writeLine (asked t) (step s)))
+  asked-once r t [] e = (omega (arith, line-more (s .transcript) (asked t)), none-left)
+  asked-once r t (a ∷ rest) e = absurd (some-none e)
+
+  offered-once : (r : ℕ) (t : Text) (os : List Text) (left : List ℤ) → left ≡ [] → Once (inputs r t os) (choose r t os 0 left (offer t os s))
+  unfolding choose
+  offered-once r t os [] e = (omega (arith, line-more (s .transcript) (offered t os)), none-left)
+  offered-once r t os (a ∷ rest) e = absurd (some-none e)
+
+  pub perform-once : (x : Statement) → Once x (perform x s)
+  unfolding perform
+  perform-once (input r t) = asked-once r t (s .left) none-left
+  perform-once (inputs r t os) = offered-once r t os (s .left) none-left
+  perform-once (print t) = (omega (arith, line-more (s .transcript) (shown t)), none-left)
+  perform-once (printex t) = (omega (arith, line-more (s .transcript) (ruled t)), none-left)
 
 -- an A line has at most 14 bytes
 pub answers-room : (answers : List ℤ) → Ranged answers → answersRoom answers ≤ 14 * length answers

@@ -216,17 +216,23 @@ module _ {w : ℕ} (some-bits : 0 < w) where
   unfolding charactersIn
   size-start plate at = record { place = omega arith; text = so-far-none plate at }
 
-  pub size-more : {plate : List ℕ} {at size bit : ℕ} → SizeSoFar w plate at size bit → (c next : ℕ)
-      → got c (placeAt plate next) ≡ character w (placeAt plate bit) → (c ≡ 3 → ⊥) → SizeSoFar w plate at (size + 1) next
-  size-more {plate} {at} {size} {bit} s c next e h =
-      let read = character-read plate bit e in
-      let front = charactersIn w size (drop at (bytesBits plate)) in
-      let there : c ≡ valueOf (take w (drop (size * w) (drop at (bytesBits plate)))) =
-      read .value ∙ ap (λ k. valueOf (take w (drop k (bytesBits plate)))) (s .place)
-      ∙ ap (λ l. valueOf (take w l)) (sym (drop-drop (size * w) at (bytesBits plate))) in
-      let longer : front ++ (c ∷ []) ≡ charactersIn w (size + 1) (drop at (bytesBits plate)) =
-      rw (add-one, characters-more size (drop at (bytesBits plate))) (ap (λ k. front ++ (k ∷ [])) there) in
-      record { place = omega (arith, s .place, read .behind, add-mul size 1 w); text = rw longer at (so-far-more (s .text) c next e h) }
+  module _ {plate : List ℕ} {at size bit : ℕ} (s : SizeSoFar w plate at size bit) (c next : ℕ)
+      (e : got c (placeAt plate next) ≡ character w (placeAt plate bit)) where
+    -- the characters passed, and the next one
+    pub size-longer : charactersIn w size (drop at (bytesBits plate)) ++ (c ∷ []) ≡ charactersIn w (size + 1) (drop at (bytesBits plate))
+    size-longer =
+        let there : c ≡ valueOf (take w (drop (size * w) (drop at (bytesBits plate)))) =
+        character-read plate bit e .value ∙ ap (λ k. valueOf (take w (drop k (bytesBits plate)))) (s .place)
+        ∙ ap (λ l. valueOf (take w l)) (sym (drop-drop (size * w) at (bytesBits plate))) in
+        rw (add-one, characters-more size (drop at (bytesBits plate)))
+        (ap (λ k. charactersIn w size (drop at (bytesBits plate)) ++ (k ∷ [])) there)
+
+    pub size-more : (c ≡ 3 → ⊥) → SizeSoFar w plate at (size + 1) next
+    size-more h =
+        record {
+          place = omega (arith, s .place, character-read plate bit e .behind, add-mul size 1 w);
+          text = rw size-longer at (so-far-more (s .text) c next e h);
+        }
 
   -- so many more, of which the whole text is made
   module _ {plate : List ℕ} {at size bit : ℕ} (s : SizeSoFar w plate at size bit) (more next : ℕ)

@@ -1,3 +1,4 @@
 pub mod Characters
 pub mod Cuts
+pub mod Gathers
 pub mod TextCopy

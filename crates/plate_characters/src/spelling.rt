@@ -39,7 +39,7 @@ fn is_character(code: usize) -> bool
 }
 
 // A character of so many bits, or ETX.
-fn read_character(plate: &[u8], at: usize, width: usize) -> Field
+pub fn read_character(plate: &[u8], at: usize, width: usize) -> Field
     requires { ⌜ (width ≤ 8) × (length (now plate) ≤ mostPlateBytes) ⌝ }
     ensures { λ r. ⌜ fieldRead (now (plate .entry)) r ≡ character width (placeAt (now (plate .entry)) at) ⌝ }
 {

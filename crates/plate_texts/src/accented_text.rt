@@ -8,14 +8,13 @@ ghost use Rattle.phrases.specs.Lookup.{bookTexts, ownTexts};
 ghost use Rattle.phrases.specs.Index.{Indexed};
 ghost use Rattle.phrases.specs.Own.{OwnNumbers};
 ghost use Rattle.plate.specs.Plate.{spelled, isAccented};
-ghost use Rattle.fields.specs.Places.{placeAt, fieldRead, sizeRead, untilETX, valuesOf, measured, Known};
+ghost use Rattle.fields.specs.Places.{placeAt, fieldRead, sizeRead, measured};
 use crate::spelled_text::is_new;
 use crate::spelled_text::is_sized;
 use causes::Cause;
 use causes::Refusal;
 use fields::Field;
-use plate_characters::copy_each;
-use plate_characters::last_size;
+use plate_characters::gather;
 
 // Whether a text is well-formed, not of ASCII alone, and no phrase.
 fn is_accented(index: &[u32], book: &[u8], own: &[u8], count: usize, text: &[u8]) -> bool
@@ -31,24 +30,6 @@ fn is_accented(index: &[u32], book: &[u8], own: &[u8], count: usize, text: &[u8]
     false
 }
 
-// The same of a text of so many bytes from a bit on, up to ETX.
-fn is_accented_at(
-    plate: &[u8],
-    bit: usize,
-    size: usize,
-    index: &[u32],
-    book: &[u8],
-    own: &[u8],
-    count: usize,
-) -> bool
-    requires { ⌜ (length (now plate) ≤ mostPlateBytes) × Indexed (now index) (now book) × OwnNumbers (now index) (now book) (now own) count × Known (untilETX 8 (placeAt (now plate) bit)) × (size ≡ length (valuesOf (untilETX 8 (placeAt (now plate) bit)))) × (size ≤ 64) ⌝ }
-    ensures { λ r. ⌜ r ≡ isAccented (bookTexts (now (book .entry))) (ownTexts count (now (own .entry))) (valuesOf (untilETX 8 (placeAt (now (plate .entry)) bit))) ⌝ }
-{
-    let mut characters = [0u8; 64];
-    copy_each(plate, bit, 8, &mut characters, 0);
-    is_accented(index, book, own, count, &characters[..size])
-}
-
 // The size of the text, and the bit behind its ETX.
 fn read_accented(
     plate: &[u8],
@@ -61,12 +42,13 @@ fn read_accented(
     requires { ⌜ (length (now plate) ≤ mostPlateBytes) × Indexed (now index) (now book) × OwnNumbers (now index) (now book) (now own) count ⌝ }
     ensures { λ r. ⌜ sizeRead 8 (now (plate .entry)) at r ≡ spelled 8 (isAccented (bookTexts (now (book .entry))) (ownTexts count (now (own .entry)))) (placeAt (now (plate .entry)) at) ⌝ }
 {
-    let field = last_size(plate, at, 8);
+    let mut characters = [0u8; 64];
+    let field = gather(plate, at, 8, &mut characters);
     let Field::Is(size, next) = field else {
         return field;
     };
     if is_sized(size) {
-        if is_accented_at(plate, at, size, index, book, own, count) {
+        if is_accented(index, book, own, count, &characters[..size]) {
             return Field::Is(size, next);
         }
     }

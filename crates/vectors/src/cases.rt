@@ -30,8 +30,8 @@ fn read_number() -> Number {
     Number::Is(crate::input::number(&bytes, 0))
 }
 
-// The same, 0 at the end. A program reads the number of a call by it: at the end read_case then finds no case.
-pub fn number_or_zero() -> usize {
+// The same, 0 at the end.
+fn number_or_zero() -> usize {
     match read_number() {
         Number::Is(n) => n,
         Number::Ends => 0,

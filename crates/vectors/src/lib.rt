@@ -10,7 +10,6 @@ pub use buffer::fill;
 pub use buffer::lent;
 pub use buffer::put_buffer;
 pub use cases::Case;
-pub use cases::number_or_zero;
 pub use cases::read_answers;
 pub use cases::read_case;
 pub use cases::read_scratch;

@@ -4,6 +4,7 @@
 // model/README.md has the format.
 use causes::Ran;
 use causes::Written;
+use libc::STDIN_FILENO;
 use libc::STDOUT_FILENO;
 use printed::front;
 
@@ -46,6 +47,13 @@ fn call_run(plate: &[u8], book: &[u8], answers: &[i32], scratch: &mut [u16], out
     print_ran(answer, out);
 }
 
+// The number of the next case's call. Where the input ends it is that of what was read, and no case follows.
+fn read_call() -> usize {
+    let mut bytes = [0; 4];
+    io::read_full(STDIN_FILENO, &mut bytes);
+    vectors::number(&bytes, 0)
+}
+
 // One case, if there is one more of a call.
 fn case(
     input: &mut [u8],
@@ -54,7 +62,7 @@ fn case(
     scratch: &mut [u16],
     out: &mut [u8],
 ) -> bool {
-    let call = vectors::number_or_zero();
+    let call = read_call();
     let c = vectors::read_case(input, book, out);
     if !c.more {
         return false;

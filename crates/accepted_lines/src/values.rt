@@ -10,14 +10,14 @@ ghost use Rattle.lines.specs.Known.{HasValue, HasDigits};
 use transcript::Op;
 
 // A number, and where the fields behind it begin.
-#[derive(Drop)]
+#[derive(Clone, Copy)]
 pub struct Number {
     pub value: usize,
     pub next: usize,
 }
 
 // A constant, and where the fields behind it begin.
-#[derive(Drop)]
+#[derive(Clone, Copy)]
 pub struct Signed {
     pub value: i32,
     pub next: usize,

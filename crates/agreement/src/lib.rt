@@ -2,6 +2,8 @@
 // specs/Agreement.antt says what is claimed, in the order of the demand's sentences; proofs/ shows it for every book, guide, plate that
 // the translation makes of it, scratch and transcript buffer. specs/Composed.antt says the same of the calls: the function composes
 // translate and run, and its contract stands on their own promises. src/more.rt composes two runs.
+#![tactic(auto)]
+
 mod more;
 
 ghost use Rattle.std.specs.Prelude.{ℕ, ◌≤◌, ◌≡◌, length, take};

@@ -7,7 +7,7 @@ ghost use Rattle.running.specs.More.{CallsLengthen};
 use causes::Ran;
 
 // What the run on the first answers gives, and the run on all of them.
-#[derive(Drop)]
+#[derive(Clone, Copy)]
 pub struct Runs {
     pub first: Ran,
     pub all: Ran,

@@ -4,6 +4,7 @@
 // first line whose skip goes past the instructions behind it, 10, 11, or the plate.
 // The plate is made in an array of the longest plate's length, and copied to the front of the lent buffer, so that a refusal leaves it as it
 // was and the bytes behind a plate stay.
+#![tactic(auto)]
 
 mod line;
 
@@ -21,7 +22,7 @@ use line::{count_of, put, skip_at, skip_of};
 use lines::Form;
 
 // How many bits a plate has, or the first line whose skip goes past the instructions behind it.
-#[derive(Drop)]
+#[derive(Clone, Copy)]
 pub enum Made {
     Bits(usize),
     Past(usize),

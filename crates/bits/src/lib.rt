@@ -1,18 +1,20 @@
 // Numbers, bytes and the filling of the last byte as bits: definitions and their laws, in code what reading and writing them share.
 // specs/Bits.antt says what the bits of numbers and of bytes are, and how they are filled up to whole bytes. The crates above read numbers at any
 // bit of a byte buffer, highest bit first (bits_in), read 25 bits ahead (bits_ahead), and write numbers (bits_out).
+#![tactic(auto)]
+
 ghost use Rattle.std.specs.Prelude.{◌≡◌, ◌+◌, ◌-◌, ◌*◌, ◌^◌, ◌≤◌, ◌<◌, min, length, take, drop};
 ghost use Rattle.bits.specs.Bits.{value_of, bytes_bits};
 
 // What reading a number finds: the number, or that the plate ends inside it.
-#[derive(Drop)]
+#[derive(Clone, Copy)]
 pub enum Number {
     Is(u32),
     Ends,
 }
 
 // What reading 56 bits at once finds: their number, or that fewer than eight bytes are left.
-#[derive(Drop)]
+#[derive(Clone, Copy)]
 pub enum Wide {
     Is(usize),
     Short,

@@ -1,5 +1,7 @@
 // Several short numbers, one behind the other, as parts of 25 bits that are read ahead once.
 // specs/Ahead.antt of crate bits has the definitions.
+#![tactic(auto)]
+
 ghost use Rattle.std.specs.Prelude.{◌≡◌, ◌+◌, ◌-◌, ◌≤◌, ◌<◌, length, drop, get_or};
 ghost use Rattle.bits.specs.Bits.{value_of, bytes_bits};
 ghost use Rattle.bits.specs.Number.{number_in};

@@ -1,5 +1,7 @@
 // Numbers of 0 to 32 bits or of 56, read in a byte buffer at any bit of it, highest bit first.
 // Reading finds the number, or that the buffer ends inside it.
+#![tactic(auto)]
+
 ghost use Rattle.std.specs.Prelude.{◌≡◌, ◌+◌, ◌≤◌, take, drop};
 ghost use Rattle.bits.specs.Bits.{bits_of, value_of, bytes_bits};
 ghost use Rattle.bits.specs.Number.{number_in, wide_in};

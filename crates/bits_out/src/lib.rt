@@ -1,6 +1,8 @@
 // Numbers of 0 to 56 bits, written into a byte buffer at any bit of it, highest bit first.
 // Writing stores each bit that has room, changes no other bit, and returns the place behind the bits, with room or without: a first pass
 // over no buffer at all counts the bits of the whole.
+#![tactic(auto)]
+
 ghost use Rattle.std.specs.Prelude.{◌≡◌, ◌+◌, ◌-◌, ◌*◌, ◌≤◌, ◌<◌, length};
 ghost use Rattle.output.specs.Pour.{pour, poured};
 ghost use Rattle.bits.specs.Bits.{bits_of, bytes_bits};

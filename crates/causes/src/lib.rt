@@ -1,3 +1,5 @@
+#![tactic(auto)]
+
 ghost use Rattle.std.specs.Prelude.{◌≡◌};
 ghost use Rattle.causes.specs.Causes.{number, outcome_number, wrong_answers};
 
@@ -8,7 +10,7 @@ ghost use Rattle.causes.specs.Causes.{number, outcome_number, wrong_answers};
 pub mod limits;
 
 // The causes, in the order of their numbers, 1 to 15.
-#[derive(Drop)]
+#[derive(Clone, Copy)]
 pub enum Cause {
     // The phrase book: over 256 phrases, a bad or repeated text, no last LF.
     Book,
@@ -43,14 +45,14 @@ pub enum Cause {
 }
 
 // A refusal: the cause, and the line, the bit or the 0 that document 01 returns with it.
-#[derive(Drop)]
+#[derive(Clone, Copy)]
 pub struct Refusal {
     pub cause: Cause,
     pub place: usize,
 }
 
 // How a walk or a run ends.
-#[derive(Drop)]
+#[derive(Clone, Copy)]
 pub enum Outcome {
     Verdict,
     End,
@@ -60,7 +62,7 @@ pub enum Outcome {
 }
 
 // What a walk or a run returns: the transcript's length, the outcome, with the wrong answers so far where it waits, the answers taken and the steps.
-#[derive(Drop)]
+#[derive(Clone, Copy)]
 pub struct Report {
     pub length: usize,
     pub outcome: Outcome,
@@ -69,14 +71,14 @@ pub struct Report {
 }
 
 // The answer of translate, write_plate and read_plate: the result's length, or a refusal.
-#[derive(Drop)]
+#[derive(Clone, Copy)]
 pub enum Written {
     Done(usize),
     Refused(Refusal),
 }
 
 // The answer of walk and run.
-#[derive(Drop)]
+#[derive(Clone, Copy)]
 pub enum Ran {
     Done(Report),
     Refused(Refusal),

@@ -15,7 +15,7 @@ use lines::Head;
 use phrases::Found;
 
 // A cause, if there is one.
-#[derive(Drop)]
+#[derive(Clone, Copy)]
 pub enum Fault {
     Absent,
     Is(Cause),

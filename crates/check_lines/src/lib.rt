@@ -4,6 +4,8 @@
 // Its contract says the whole answer by a definition: specs/Check.antt of crate lines says what the check finds.
 // Texts are never copied: the own phrases are the texts of a listing's first lines, so that how many there are is all that is held of them
 // (specs/Held.antt). The number of each is entered behind the index of the book (specs/Numbers.antt), for the lookups that follow.
+#![tactic(auto)]
+
 mod checking;
 mod fault;
 mod numbers;

@@ -11,7 +11,7 @@ ghost use Rattle.check_lines.specs.Held.{Sound, Advanced, Passing, line_with};
 use lines::Head;
 
 // The number of own phrases, of instructions, and of ifs that are open.
-#[derive(Drop)]
+#[derive(Clone, Copy)]
 pub struct Seen {
     pub own: usize,
     pub instructions: usize,

@@ -1,6 +1,8 @@
 // The five calls for C: include/doorplate.h declares them, and `rt staticlib doorplate` makes the archive.
 // Each exported function has no precondition and promises every field of its answer and the later content of every buffer it was lent,
 // through the definition of the call and the values that specs/Values.antt gives an answer.
+#![tactic(auto)]
+
 ghost use Rattle.std.specs.Prelude.{◌≡◌, length};
 ghost use Rattle.causes.specs.Answers.{written_answer, ran_answer};
 ghost use Rattle.translating.specs.Call.{translate_call};
@@ -11,7 +13,7 @@ ghost use Rattle.doorplate.specs.Values.{written_values, ran_values, WrittenIs, 
 
 // doorplate_written in C: number 0 and the length, or a refusal's number and place.
 #[repr(C)]
-#[derive(Drop)]
+#[derive(Clone, Copy)]
 pub struct WrittenValues {
     pub number: u32,
     pub place: u64,
@@ -20,7 +22,7 @@ pub struct WrittenValues {
 
 // doorplate_ran in C: number 0 and the record of the run, or a refusal's number and place.
 #[repr(C)]
-#[derive(Drop)]
+#[derive(Clone, Copy)]
 pub struct RanValues {
     pub number: u32,
     pub place: u64,

@@ -2,6 +2,7 @@
 // specs/Block.antt says which block a list of lines is, specs/Guide.antt what an accepted guide is, and specs/Lines.antt what the lines are
 // from a place of the text on. Readers of the line at a place, of its role alone, and of the end of a block that is not walked. No line from
 // the place on is a fault: an accepted guide has none.
+#![tactic(auto)]
 
 mod places;
 mod roles;
@@ -11,7 +12,7 @@ pub use places::{line_at, pass_over, role_at};
 pub use roles::{begins, is_else};
 
 // What a line is in a block.
-#[derive(Drop)]
+#[derive(Clone, Copy)]
 pub enum Role {
     // `input`, `inputs`, `print` or `printex`.
     Statement,
@@ -23,7 +24,7 @@ pub enum Role {
 }
 
 // A line: its role and its head, where it starts and ends, and where the next line starts.
-#[derive(Drop)]
+#[derive(Clone, Copy)]
 pub struct Here {
     pub role: Role,
     pub head: Head,
@@ -33,7 +34,7 @@ pub struct Here {
 }
 
 // A line's role, and where the next line starts.
-#[derive(Drop)]
+#[derive(Clone, Copy)]
 pub struct LineRole {
     pub role: Role,
     pub next: usize,

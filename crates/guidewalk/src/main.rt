@@ -2,6 +2,8 @@
 // steps and the wrong answers to the present question; or its refusal.
 // A guide of more than 16,384 bytes is refused whatever it holds, so that 16,385 bytes of it are enough. A walk meets at most 512
 // statements, and each takes at most three answers.
+#![tactic(auto)]
+
 use causes::{Ran, Refusal, Report};
 use libc::{STDERR_FILENO, STDOUT_FILENO};
 use printed::front;

@@ -1,5 +1,7 @@
 // Bytes read from pairs of hexadecimal digits, as a plate stands in a file. specs/Pairs.antt says which bytes a text holds.
 // `read_pairs` takes any text and any buffer; its contract says the whole answer and the whole buffer.
+#![tactic(auto)]
+
 ghost use Rattle.std.specs.Prelude.{◌≡◌};
 ghost use Rattle.output.specs.Pour.{poured};
 ghost use Rattle.hex_pairs.specs.Pairs.{digit_value, unlabelled, pairs_in, pairs_of};
@@ -7,14 +9,14 @@ ghost use Rattle.hex_pairs.specs.Pairs.{digit_value, unlabelled, pairs_in, pairs
 use printed::front;
 
 // What reading pairs finds: how many bytes stand before the first fault, and the fault's line, 0 where there is none.
-#[derive(Drop)]
+#[derive(Clone, Copy)]
 pub struct PairsRead {
     pub count: usize,
     pub fault: usize,
 }
 
 // What reading a line finds: where the bytes of its pairs end, and whether the line holds nothing else.
-#[derive(Drop)]
+#[derive(Clone, Copy)]
 struct Line {
     end: usize,
     whole: bool,

@@ -4,6 +4,8 @@
 // (`accepted_end`): nothing is judged again. The contracts say it by the readers of crate plate's specs/Plate.antt; specs/Heads.antt
 // says which instruction a head begins.
 // Asked of a caller (crate plate_texts' `Lent`): a plate of at most 2,953 bytes, the index of the book, and own phrases that are there.
+#![tactic(auto)]
+
 mod heads;
 mod passing;
 
@@ -13,7 +15,7 @@ use transcript::Test;
 
 // What stands in front of an instruction's texts. A text begins at its bit; the next is the bit behind a goto; an if is told by its bit and
 // the 25 bits that were read ahead there.
-#[derive(Drop)]
+#[derive(Clone, Copy)]
 pub enum Head {
     Input { register: usize, text: usize },
     Inputs { register: usize, text: usize },
@@ -24,7 +26,7 @@ pub enum Head {
 }
 
 // What an if says, and the bit behind it.
-#[derive(Drop)]
+#[derive(Clone, Copy)]
 pub struct IfRead {
     pub test: Test,
     pub skip: usize,

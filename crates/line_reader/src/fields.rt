@@ -13,7 +13,7 @@ use lines::{Form, Head};
 use transcript::Test;
 
 // What reading the R, OP and C of an if finds: the test, and where C ends.
-#[derive(Drop)]
+#[derive(Clone, Copy)]
 pub enum TestRead {
     Is { test: Test, end: usize },
     Wrong,

@@ -10,7 +10,7 @@ use causes::Cause;
 use lines::{Form, Head};
 
 // What the judging of one text finds: a text, another count of fields, or a field that is no text.
-#[derive(Drop)]
+#[derive(Clone, Copy)]
 pub enum OneText {
     Right,
     OtherCount,

@@ -8,7 +8,7 @@ use lines::Kind;
 use transcript::Op;
 
 // What reading an operator finds.
-#[derive(Drop)]
+#[derive(Clone, Copy)]
 pub enum Operator {
     Is(Op),
     Wrong,

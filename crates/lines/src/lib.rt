@@ -2,18 +2,20 @@
 // specs/Line.antt says what a line is, with its cause 3, 4, 5 or, in a guide, 6; specs/Check.antt what the check finds; specs/Clean.antt
 // which lines have none of these causes. The types are those of the code in line_reader (any line, judged), accepted_lines (a line that has
 // none of these causes, read again) and check_lines (the check), whose contracts say the whole answer by these definitions.
+#![tactic(auto)]
+
 use causes::{Cause, Refusal};
 use transcript::Test;
 
 // The two texts that are read line by line.
-#[derive(Drop)]
+#[derive(Clone, Copy)]
 pub enum Form {
     Guide,
     Listing,
 }
 
 // The kind that a line's first field names.
-#[derive(Drop)]
+#[derive(Clone, Copy)]
 pub enum Kind {
     Phrase,
     Input,
@@ -28,7 +30,7 @@ pub enum Kind {
 }
 
 // A line without its texts, which stay where they are in the text.
-#[derive(Drop)]
+#[derive(Clone, Copy)]
 pub enum Head {
     Phrase,
     Input { register: usize },
@@ -44,7 +46,7 @@ pub enum Head {
 }
 
 // What the check of a guide or listing finds: how many own phrases and instructions it has, or a refusal.
-#[derive(Drop)]
+#[derive(Clone, Copy)]
 pub enum Checked {
     Fine { own: usize, instructions: usize },
     Refused(Refusal),

@@ -1,6 +1,8 @@
 // The lines of instructions, each written at the front of the listing's unwritten tail.
 // Crate listing's specs/Listing.antt says which line an instruction is. An instruction is read from its bits on a plate that was accepted: its
 // head first, and then each text is copied from the plate into its line. A line is stored as far as the tail goes, and counted to its end.
+#![tactic(auto)]
+
 mod field;
 
 ghost use Rattle.std.specs.Prelude.{◌≡◌, [], ◌∷◌, ◌++◌, ◌<◌};

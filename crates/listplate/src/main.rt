@@ -1,6 +1,8 @@
 // listplate LISTING BOOK: prints `plate,` and the plate of a listing in hexadecimal; or its refusal.
 // A listing of more than 327,680 bytes is refused whatever it holds, so that 327,681 bytes of it are enough. A plate has at most 2,953
 // bytes, and its line 5,913.
+#![tactic(auto)]
+
 use causes::limits::PLATE_BYTES;
 use causes::{Refusal, Written};
 use libc::{STDERR_FILENO, STDOUT_FILENO};

@@ -2,6 +2,8 @@
 // The contracts say it by the state that a machine stands for (transcript/specs/Machine.antt). A register is below 32, and one step more must
 // still fit a 64-bit number; any answers will do. The laws say what is in the transcript buffer when one thing follows another, and what a call
 // leaves there.
+#![tactic(auto)]
+
 mod compare;
 mod report;
 

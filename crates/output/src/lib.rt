@@ -1,6 +1,8 @@
 // Writing into a lent buffer: what is written at a place, as far as the buffer goes, and where the writing ends.
 // Every writer of bytes and of bits goes on past the buffer's end without storing, so that a first pass over no buffer at all
 // finds the length of the whole. specs/Pour.antt says what a buffer then holds.
+#![tactic(auto)]
+
 ghost use Rattle.std.specs.Prelude.{◌≡◌, ◌+◌, min};
 ghost use Rattle.output.specs.Pour.{up_to};
 

@@ -10,7 +10,7 @@ use crate::layout::{
 };
 
 // The place of a text among texts, from 0.
-#[derive(Drop)]
+#[derive(Clone, Copy)]
 pub enum Place {
     At(usize),
     Missing,

@@ -5,6 +5,8 @@
 // specs/Index.antt what the index of a book is; specs/Own.antt the numbers of own phrases behind it.
 // Each contract says the whole answer by a definition of specs/. `width_of` takes at most 65,536 phrases.
 // `text_of` returns a part of the book, never a copy; it takes a place only where there is a text.
+#![tactic(auto)]
+
 mod index;
 mod layout;
 mod numbers;
@@ -19,14 +21,14 @@ pub use numbers::count_of;
 pub use widths::width_of;
 
 // What the check of a book finds: how many phrases it has, or its first bad line.
-#[derive(Drop)]
+#[derive(Clone, Copy)]
 pub enum Book {
     Holds(usize),
     Bad(usize),
 }
 
 // Where a text is a phrase: its place from 0 in the book or among the own phrases.
-#[derive(Drop)]
+#[derive(Clone, Copy)]
 pub enum Found {
     InBook(usize),
     InOwn(usize),

@@ -3,6 +3,8 @@
 // specs/Plate.antt how a plate is read, with causes 8, 10 and 12 to 15 at the exact bit. proofs/RoundTrip.antt: what was written is
 // read, and what was read is written.
 // Crates text_bits, writer and plate_room write the bits; fields, instructions and reader read them.
+#![tactic(auto)]
+
 ghost use Rattle.std.specs.Prelude.{◌≡◌};
 ghost use Rattle.plate.specs.Writing.{is_short};
 

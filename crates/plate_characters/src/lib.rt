@@ -1,5 +1,7 @@
 // The characters of a plate, read from a bit on up to ETX: judged and counted, or copied into a buffer, or both.
 // Every function takes any bits and reads from any bit on. Its contract is written as those of crate fields are.
+#![tactic(auto)]
+
 mod copying;
 mod gathering;
 mod spelling;

@@ -1,5 +1,7 @@
 // Constants of a plate, and the R, OP and C of an if, read at a bit.
 // Every function takes any bits and reads from any bit on. Its contract is written as those of crate fields are.
+#![tactic(auto)]
+
 mod constant;
 mod tests;
 

@@ -3,6 +3,8 @@
 // lent buffer.
 // `put_front` and `put_fill` store their bits as the writers of crate text_bits do. `own` is a text whose first `count` lines are
 // `phrase,TEXT`.
+#![tactic(auto)]
+
 mod lent;
 mod own;
 mod sizes;
@@ -16,7 +18,7 @@ pub use lent::lend;
 pub use own::put_front;
 
 // How many bytes of a lent buffer a plate takes, or why it gets none.
-#[derive(Drop)]
+#[derive(Clone, Copy)]
 pub enum Room {
     Bytes(usize),
     Refused(Refusal),

@@ -3,6 +3,8 @@
 // what a reader of crate plate's specs/Plate.antt finds there.
 // Asked of a caller (`Lent`): a plate of at most 2,953 bytes, the index of the book, and own phrases that are there with their numbers.
 // A text that is read first is judged, and answers its size and its end; one that was read before is copied into a lent buffer.
+#![tactic(auto)]
+
 mod accented_text;
 mod copying;
 mod phrase_place;
@@ -15,7 +17,7 @@ pub use spelled_text::read_spelled;
 pub use text_at::{pass_text, pass_texts};
 
 // Options that were copied from a plate into a buffer: how many, where they end in the buffer, and the bit behind them on the plate.
-#[derive(Drop)]
+#[derive(Clone, Copy)]
 pub struct Offered {
     pub options: usize,
     pub end: usize,

@@ -35,7 +35,7 @@ fn read_place(plate: &[u8], ahead: usize, at: usize, k: usize, n: usize) -> Fiel
 }
 
 // Which phrases a place is among: the book's or the own ones, how many they are, and the bits from the code to the place.
-#[derive(Drop)]
+#[derive(Clone, Copy)]
 pub enum Source {
     Is { own: bool, n: usize, k: usize },
     Refused(Refusal),
@@ -105,7 +105,7 @@ pub fn pass_phrase<'a>(
 }
 
 // A phrase by its place in the book or among the own phrases, and the bit behind it.
-#[derive(Drop)]
+#[derive(Clone, Copy)]
 pub struct PhraseAt {
     pub own: bool,
     pub place: usize,

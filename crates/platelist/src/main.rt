@@ -1,6 +1,8 @@
 // platelist PLATE BOOK: prints the listing of a plate, given in hexadecimal; or its refusal.
 // A plate of more than 2,953 bytes is refused whatever it holds, so that 2,954 bytes of it are enough. No accepted plate has a listing of
 // more than 327,680 bytes.
+#![tactic(auto)]
+
 use causes::limits::LISTING_BYTES;
 use causes::{Refusal, Written};
 use libc::{STDERR_FILENO, STDOUT_FILENO};

@@ -2,6 +2,8 @@
 // the answers taken, the steps and the wrong answers to the present question; or its refusal.
 // A plate of more than 2,953 bytes is refused whatever it holds, so that 2,954 bytes of it are enough. A run meets at most 512
 // instructions, and each takes at most three answers.
+#![tactic(auto)]
+
 use causes::{Ran, Refusal, Report};
 use libc::{STDERR_FILENO, STDOUT_FILENO};
 use printed::front;

@@ -1,6 +1,8 @@
 // Reads a guide on standard input, with an empty book, and prints its listing and its plate, or its refusal.
 // A guide of more than 16,384 bytes is refused whatever it holds, so that 16,385 bytes of it are enough. What is printed has at most
 // 333,593 bytes.
+#![tactic(auto)]
+
 use libc::{STDIN_FILENO, STDOUT_FILENO};
 
 // One byte more than a guide may have.

@@ -5,6 +5,8 @@
 // written, each line at the front of the buffer's unwritten tail; an instruction is read again from its bits, and a text is copied from the
 // plate. A buffer with room for every line, which the first reading of the plate counts, is written at once; else the listing is made twice:
 // first on no buffer, to learn its length, and then on the lent one.
+#![tactic(auto)]
+
 mod passes;
 mod phrase_lines;
 

@@ -3,6 +3,8 @@
 // specs/Holding.antt says which program a plate's contents are. The own phrases are written once, as lines `phrase,TEXT`, into a buffer
 // that the caller lends, and each gets its number behind the index of the book; instructions stay where they are, and are read again one by
 // one.
+#![tactic(auto)]
+
 mod filling;
 mod own;
 mod passing;
@@ -17,7 +19,7 @@ pub const OWN_BYTES: usize = 2304;
 
 // What a plate holds: how many own phrases and instructions, the bit of the first instruction, and the room that the lines of the
 // instructions take at most in a listing.
-#[derive(Drop)]
+#[derive(Clone, Copy)]
 pub struct Contents {
     pub own: usize,
     pub instructions: usize,
@@ -26,7 +28,7 @@ pub struct Contents {
 }
 
 // What reading a whole plate finds: its contents, or a refusal.
-#[derive(Drop)]
+#[derive(Clone, Copy)]
 pub enum PlateRead {
     Holds(Contents),
     Refused(Refusal),

@@ -1,5 +1,7 @@
 // Plain words for a refusal, as the tools tell it. specs/Words.antt says them.
 // `put_words` stores as far as the buffer goes, from a place on, and answers where its writing ends (crate output).
+#![tactic(auto)]
+
 ghost use Rattle.std.specs.Prelude.{◌≡◌, ◌++◌};
 ghost use Rattle.text.specs.Quoted.{bytes};
 ghost use Rattle.decimals.specs.Number.{decimalℕ};
@@ -10,14 +12,14 @@ use causes::{Cause, Refusal};
 use text_out::put;
 
 // What a place counts: the lines of a guide or listing, or the bits of a plate.
-#[derive(Drop)]
+#[derive(Clone, Copy)]
 pub enum Counted {
     Lines,
     Bits,
 }
 
 // What the place of a refusal is.
-#[derive(Drop)]
+#[derive(Clone, Copy)]
 pub enum Place {
     Nowhere,
     BookLine,

@@ -1,6 +1,7 @@
 // Demand 2 on the calls: a listing that was written as a plate and read back is the same listing, and a plate that was read and
 // written again is the same plate, with the book, and with buffers of any length.
 // specs/RoundTrips.antt says what is claimed. The functions compose the two calls, and their contracts stand on the calls' own promises.
+#![tactic(auto)]
 
 ghost use Rattle.std.specs.Prelude.{◌≡◌};
 ghost use Rattle.causes.specs.Answers.{written_answer};

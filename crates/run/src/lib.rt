@@ -6,6 +6,8 @@
 // bits. Jumps only go forward, so to skip is to read on: it keeps the bit of the next instruction, how many are left, and how many of these
 // are passed over. A buffer that is surely long enough is written at once; else the run is made twice: first on no buffer, to learn
 // the transcript's length, and then on the lent one. Scratch is tested for its length and left alone.
+#![tactic(auto)]
+
 mod passes;
 
 ghost use Rattle.std.specs.Prelude.{◌≡◌, length};

@@ -2,6 +2,8 @@
 // An instruction is read as it is met: its head, and behind it the texts, which are copied straight from the plate into the transcript. `meet`
 // answers what specs/Meets.antt says: how the instruction is left, with the transcript in the lent buffer, how many behind it are passed over,
 // and the bit behind it. The plate has been read and accepted, so the instruction is there, and three steps more must still fit a 64-bit number.
+#![tactic(auto)]
+
 mod perform;
 
 ghost use Rattle.std.specs.Prelude.{◌≡◌, List, ℕ, ◌+◌, ◌≤◌, ◌<◌, ℤ};
@@ -25,7 +27,7 @@ use transcript_lines::ASKED;
 
 // What an instruction leaves: the machine, the outcome and the transcript's end, how many instructions behind it are passed over, and the
 // bit behind it.
-#[derive(Drop)]
+#[derive(Clone, Copy)]
 pub struct Met {
     pub left: Performed,
     pub over: usize,

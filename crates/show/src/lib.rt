@@ -2,6 +2,8 @@
 // specs/Show.antt says the text.
 // The guide is translated into a plate of at most 2,953 bytes, which is then read back for its listing of at most 327,680 bytes. Both
 // buffers are local and long enough for every guide.
+#![tactic(auto)]
+
 mod print;
 
 ghost use Rattle.std.specs.Prelude.{◌≡◌};

@@ -4,6 +4,8 @@
 // as far as the buffer goes, and counted to its end. The C line of inputs is written before, and `choose` then makes one try: where it says
 // `again`, the caller writes the C line again and tries once more. A caller that writes another line itself then calls `answer` or `leave`.
 // Any text, any answers and any buffer will do. A register is below 32, and one step more must still fit a 64-bit number.
+#![tactic(auto)]
+
 ghost use Rattle.std.specs.Prelude.{◌≡◌, List, ℕ, suc, ◌+◌, ◌<◌, length, drop, get_or, ℤ, pos};
 ghost use Rattle.transcript.specs.Statement.{input, print, printex};
 ghost use Rattle.transcript.specs.State.{step};
@@ -19,7 +21,7 @@ use transcript::{Machine, Performed};
 use transcript_lines::{put_answered, put_asked, put_ruled, put_shown};
 
 // What a try at inputs leaves, and whether the answer was wrong and another try is left: then the C line is to be written again.
-#[derive(Drop)]
+#[derive(Clone, Copy)]
 pub struct Tried {
     pub left: Performed,
     pub again: bool,

@@ -4,6 +4,8 @@
 // crate plate's specs/Writing.antt, for a buffer of at most 2,953 bytes, the longest plate.
 // `book` is the phrase book, and `own` a text whose first `count` lines are `phrase,TEXT`. There are at most 32 own
 // phrases, each with its number behind the index of the book.
+#![tactic(auto)]
+
 mod texts;
 
 pub use texts::{put_spelled, put_text, put_texts};

@@ -1,6 +1,8 @@
 // What the tools share: input files, and answers from the arguments.
 // A file is named by an argument; `-` is standard input. What cannot be read is told on standard error, in one line, and nothing is
 // printed. No contract can say what is read; what is read has room in the lent space (specs/Inputs.antt).
+#![tactic(auto)]
+
 mod answers;
 mod files;
 mod spaces;
@@ -27,7 +29,7 @@ pub const ANSWERS: usize = 1536;
 
 // What reading finds: how many bytes or answers stand at the front of the lent space, or that something cannot be read, which has
 // been told.
-#[derive(Drop)]
+#[derive(Clone, Copy)]
 pub enum Input {
     Holds(usize),
     Unread,

@@ -1,10 +1,12 @@
 // What walk and run share: the statements, the state, what one statement does, the test of an if, and the lines of the transcript.
 // The definitions are in specs/ (Perform.antt says what a statement does), their laws and worked cases in proofs/. The types are those of the
 // code in transcript_lines, machine and statements, whose contracts say what it does by these definitions.
+#![tactic(auto)]
+
 use causes::Outcome;
 
 // How an if compares a register with its constant.
-#[derive(Drop)]
+#[derive(Clone, Copy)]
 pub enum Op {
     Eq,
     Ne,
@@ -15,7 +17,7 @@ pub enum Op {
 }
 
 // The R, OP and C of an if.
-#[derive(Drop)]
+#[derive(Clone, Copy)]
 pub struct Test {
     pub register: usize,
     pub op: Op,
@@ -23,14 +25,14 @@ pub struct Test {
 }
 
 // The numbers of a walk or run: answers taken and steps. Its registers and its transcript stand in what is lent.
-#[derive(Drop)]
+#[derive(Clone, Copy)]
 pub struct Machine {
     pub taken: usize,
     pub steps: usize,
 }
 
 // What a statement leaves: the machine, how it ends (End: it goes on), and where the transcript now ends.
-#[derive(Drop)]
+#[derive(Clone, Copy)]
 pub struct Performed {
     pub machine: Machine,
     pub outcome: Outcome,

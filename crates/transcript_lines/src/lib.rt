@@ -1,6 +1,8 @@
 // The lines of the transcript, each written at the front of its unwritten tail.
 // A line is stored as far as the buffer goes, and counted to its end: `poured` (crate output) says both. A line begins with its letter and a
 // comma, and ends with LF: who has its texts elsewhere writes it from these. Any text, any place and any buffer will do.
+#![tactic(auto)]
+
 ghost use Rattle.std.specs.Prelude.{◌≡◌, [], ◌∷◌, ◌++◌};
 ghost use Rattle.text.specs.Parts.{comma, LF};
 ghost use Rattle.output.specs.Pour.{poured};

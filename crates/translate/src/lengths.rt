@@ -9,7 +9,7 @@ use crate::table::store;
 use guide::Role;
 
 // A block or a statement: its instructions, and the place where it ends, which for a block is that of its else, its fi or the end.
-#[derive(Drop)]
+#[derive(Clone, Copy)]
 pub struct Length {
     pub instructions: usize,
     pub end: usize,

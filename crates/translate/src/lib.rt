@@ -4,6 +4,7 @@
 // The book is checked, unless it is empty, then the guide, and a refusal leaves the buffer as it was. The skips are counted first, by
 // recursion into nested blocks, into a table of 512 numbers (specs/Lengths.antt). Then crate assemble makes the plate line by line: an if
 // and an else line take their skip from the table.
+#![tactic(auto)]
 
 mod lengths;
 mod passes;

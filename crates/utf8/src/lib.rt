@@ -1,12 +1,14 @@
 // Well-formed UTF-8: a letter's first byte says how many bytes are due behind it, and in which range the next one lies.
 // The functions take any content of any length, and each contract says the whole answer by a definition of specs/.
+#![tactic(auto)]
+
 ghost use Rattle.std.specs.Prelude.{◌≡◌, List, ◌∷◌, ℕ, ◌+◌, ◌≤◌, length, take, drop};
 ghost use Rattle.text.specs.Parts.{all};
 ghost use Rattle.text.specs.Utf8.{letters, begins, letters_behind, well_formed, ascii};
 ghost use Rattle.utf8.specs.Due.{due_of, step_of, on_step};
 
 // The bytes due: how many, and the range of the next one. Those behind it are tails.
-#[derive(Drop)]
+#[derive(Clone, Copy)]
 pub struct Due {
     pub count: usize,
     pub least: u8,
@@ -14,7 +16,7 @@ pub struct Due {
 }
 
 // What is due behind a byte, or that it stands where it may not.
-#[derive(Drop)]
+#[derive(Clone, Copy)]
 pub enum Step {
     On(Due),
     Wrong,

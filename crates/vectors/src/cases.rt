@@ -9,14 +9,14 @@ ghost use Rattle.vectors.specs.Front.{Front, Fronts};
 use libc::STDIN_FILENO;
 
 // A number of standard input, or its end.
-#[derive(Drop)]
+#[derive(Clone, Copy)]
 enum Number {
     Is(usize),
     Ends,
 }
 
 // What every case has: whether there is one, the lengths of its lent output, of its guide, listing or plate, and of its book.
-#[derive(Drop)]
+#[derive(Clone, Copy)]
 pub struct Case {
     pub more: bool,
     pub lent: usize,

@@ -1,5 +1,7 @@
 // What the programs that run the model's vectors share: spaces, numbers and slices of the input, lent buffers, the lines of the calls'
 // answers, and the cases of the calls, read. model/README.md has the format.
+#![tactic(auto)]
+
 mod buffer;
 mod cases;
 mod input;

@@ -1,6 +1,8 @@
 // Translates each guide of its standard input, runs the bytes written and walks the guide, and compares the two answers and the two
 // whole buffers itself: writes the walk's line where they are the same, `D` where they differ, and for a guide that is not translated
 // the refusal alone. The cases are those of the call walk; model/README.md has the format.
+#![tactic(auto)]
+
 use causes::limits::PLATE_BYTES;
 use causes::{Ran, Report, Written};
 use libc::STDOUT_FILENO;

@@ -1,5 +1,7 @@
 // Tries the crates bits_in and bits_out on the cases of its standard input: numbers read, also 56 bits at once, and written at any bit,
 // inside a buffer, across its end and far past it. Writes a line for each case; model/README.md has the format.
+#![tactic(auto)]
+
 ghost use Rattle.std.specs.Prelude.{◌≤◌};
 
 use bits::{Number, Wide};

@@ -2,6 +2,8 @@
 // plate and a book; scratch and lent buffers of all lengths; and random inputs.
 // A case begins with the number of its call: 0 translate, 1 write_plate, 2 read_plate, 3 walk, 4 run. Writes a line for each case;
 // model/README.md has the format.
+#![tactic(auto)]
+
 use causes::{Ran, Written};
 use libc::{STDIN_FILENO, STDOUT_FILENO};
 use printed::front;

@@ -1,6 +1,8 @@
 // Tries the crates of phrases on the cases of its standard input: the check of a book, a text's place among the phrases, the text of a
 // phrase, and the width of a place. Writes a line for each case; model/README.md has the format. A lookup in a
 // bad book is answered with the book's first bad line. The numbers of the own phrases are entered before a lookup.
+#![tactic(auto)]
+
 ghost use Rattle.phrases.specs.Index.{Indexed};
 ghost use Rattle.phrases.specs.Own.{OwnNumbers};
 ghost use Rattle.std.specs.Prelude.{◌≤◌, length};

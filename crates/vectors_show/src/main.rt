@@ -1,5 +1,7 @@
 // Shows the guides of its standard input, one after the other, as the program plateshow does: the worked cases, the guides of the folder
 // examples, every cause, every limit of a guide, and random guides. model/README.md has the format.
+#![tactic(auto)]
+
 use libc::{STDIN_FILENO, STDOUT_FILENO};
 
 // What is printed for a guide.

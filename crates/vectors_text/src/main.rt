@@ -1,6 +1,8 @@
 // Tries the crates of texts and numbers on the cases of its standard input: texts, letters, parts of a text, and decimal numbers read and
 // written.
 // Writes a line for each case; model/README.md has the format.
+#![tactic(auto)]
+
 use decimals::{Constant, Natural};
 use libc::{STDIN_FILENO, STDOUT_FILENO};
 use printed::front;

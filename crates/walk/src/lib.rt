@@ -3,6 +3,8 @@
 // buffer; crate walk_blocks walks a block.
 // The book is checked, then the guide, and a refusal leaves the buffer as it was. The walk is made once, on the lent buffer, where that is surely
 // long enough; else twice: first on no buffer, to learn the transcript's length.
+#![tactic(auto)]
+
 mod passes;
 
 ghost use Rattle.std.specs.Prelude.{◌≡◌};

@@ -1,6 +1,7 @@
 // The call `write_plate`: the plate of a listing, with a book.
 // The book is checked, unless it is empty, then the listing, line by line; then crate assemble makes the plate, or finds a skip that goes
 // too far. A refusal leaves the buffer as it was. Crate listing's specs/Calls.antt says what the call answers and leaves in the lent buffer.
+#![tactic(auto)]
 
 ghost use Rattle.std.specs.Prelude.{◌≡◌};
 ghost use Rattle.causes.specs.Limits.{most_own};

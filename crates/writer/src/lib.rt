@@ -4,6 +4,8 @@
 // crate plate's specs/Writing.antt, for a buffer of at most 2,953 bytes, the longest plate. Crate text_bits writes the texts.
 // `book` is the phrase book, and `own` a text whose first `count` lines are `phrase,TEXT`. There are at most 32 own
 // phrases, each with its number behind the index of the book.
+#![tactic(auto)]
+
 mod constants;
 mod instructions;
 mod listing;

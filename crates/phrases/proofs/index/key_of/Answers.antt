@@ -28,3 +28,9 @@ loop-i-preserved c =
     let on = weigh-on c.args.text.now c.loop-i.i (search rules) (search rules) in
     (omega (arith, on, c.loop-i.invariant.0), search rules, omega (arith, small))
 
+pub returns : goal.returns
+unfolding key weigh
+returns c =
+    let t = c.args.text.now in
+    let long : length (take 64 t) ≤ c.loop-i.i = rw length-take (omega arith) in
+    omega (arith, weigh-none t c.loop-i.i (suc c.loop-i.i) long, c.loop-i.invariant.0)

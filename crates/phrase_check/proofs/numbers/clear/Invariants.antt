@@ -1,0 +1,21 @@
+-- `clear` meets its contract: the first i numbers are those of the index of no texts, each 0.
+use borrow.Author.Rules.{rules}
+use native.Mathlib.Omega.{arith}
+use native.Mathlib.Nat.{zero-add}
+use Prim.Native.Nat.{◌-◌, ◌≤◌}
+use mathlib.Core.Path.{◌≡◌, sym, ap, ◌∙◌}
+use mathlib.Core.List.{[]}
+use lib.ListN.{length, take}
+use lib.Seq.{take_all}
+use Rattle.output.specs.Pour.{pour}
+use Rattle.output.proofs.Pour.{pour-none, pour-more, pour-length}
+use Rattle.phrases.specs.Index.{index_of}
+use Rattle.phrases.proofs.Entries.{index-length}
+use Rattle.phrases.proofs.Entered.{none-zero}
+use Rattle.phrase_check.proofs.numbers.clear.Given as goal
+
+abbrev pub invariant-loop-i : goal.invariant-loop-i
+invariant-loop-i l = (l.index ≡ pour 0 (take l.i (index_of [])) l.initial.index) × (l.i ≤ 129)
+
+abbrev pub decreases-loop-i : goal.decreases-loop-i
+decreases-loop-i l = 129 - l.i

@@ -6,4 +6,5 @@ use borrow.Author.Rules.{rules}
 use Rattle.refusal_words.proofs.put_cause.Goals as goal
 
 pub returns : goal.returns
+unfolding join
 returns c = rw (words-at c.args.cause _ _ _ refl c.number_of-number.ensures c.part.ensures) at c.put.ensures

@@ -1,4 +1,5 @@
 -- `read_line` meets its contract: the first field is the kind, and where the fields make no line the bytes are judged first.
+use Rattle.lines.specs.Line.{line_of}
 use mathlib.Core.Path.{refl, sym, ap, ◌∙◌}
 use mathlib.Core.Bool.{cond}
 use lib.Seq.{length-take-le}
@@ -23,8 +24,3 @@ returns-in-Faulty c = let g = c.args in
     ∙ ap (λ h. cond (allowed_line g.s.now) h (Faulty Byte)) (sym c.in-Faulty.is ∙ c.read_fields-head.ensures ∙ ap head_of (sym k))
     ∙ sym (line-judged g.form g.s.now)
 
-pub returns-in_default : goal.returns-in_default
-returns-in_default c = let g = c.args in
-    let k = fields-of-kind g.form g.s.now _ _ _ c.find-e.ensures.value refl c.kind_of.ensures in
-    let h = c.read_fields-head.ensures ∙ ap head_of (sym k) in
-    h ∙ ap head_of (sym (line-by-fields g.form g.s.now (head-clean (fields_line g.form (split comma g.s.now)) h c.in_default.keys2)))

@@ -25,6 +25,7 @@ pub returns-then-same-6 : goal.returns-then-same-6
 returns-then-same-6 c = ap operator_answer (sym operator-words.5 ∙ by_word operator _ _ c.same-6.ensures c.if-same-6.true)
 
 pub returns : goal.returns
+unfolding operator
 returns c =
     simp (
       sym c.same.ensures ∙ c.if-same.false,

@@ -17,40 +17,15 @@ use Rattle.phrases.proofs.BookLines.{front-texts}
 use Rattle.phrases.proofs.Entered.{Entered, entered-none, cleared, entered-length, entered-indexed, before_small, entered-more, left_is, not-holding, indexed-whole}
 use Rattle.phrase_check.proofs.check.check_book.Goals as goal
 
--- the numbers where the loop begins are the index of no texts
-first-is : (l : goal.At-loop-a)
-    → l.clear.new.index ≡ pour 0 (index_of []) l.args.index.now
-first-is l = l.clear.ensures
 
-indexed : (l : goal.At-loop-a)
-    → Indexed l.loop-a.index (take l.loop-a.a l.args.book.now)
-indexed l =
-    entered-indexed _ _ _ _ _ l.loop-a.invariant.1 l.loop-a.invariant.0.count l.loop-a.invariant.2 l.loop-a.invariant.5 l.loop-a.invariant.4
 
-left : (l : goal.At-loop-a)
-    → good_texts l.args.book.now
-    ≡ book_texts (take l.loop-a.a l.args.book.now)
-    → l.loop-a.index
-    ≡ pour 0 (index_of (good_texts l.args.book.now))
-    l.args.index.now
-left l = left_is _ _ _ _ _ _ l.loop-a.invariant.1 (first-is l)
 
-long : (l : goal.At-loop-a)
-    → length l.loop-a.index ≡ length l.args.index.now
-long l = entered-length _ _ _ _ _ l.loop-a.invariant.1 ∙ ap length (first-is l) ∙ pour-length 0 (index_of []) _
 
 pub loop-a-init : goal.loop-a-init
 loop-a-init c =
     (good_none _, entered-none _ _ _ (cleared _ _ c.clear.ensures), search rules, search rules, search rules, omega (arith, ap length c.clear.ensures, pour-length 0 (index_of []) c.args.index.now, c.requires))
 
-pub shape_of-index-then-e-book : goal.shape_of-index-then-e-book
-shape_of-index-then-e-book c = (entered-length _ _ _ _ _ c.loop-a.invariant.1 ∙ ap length (first-is l) ∙ pour-length 0 (index_of []) _)
 
-pub returns-then-e-book : goal.returns-then-e-book
-returns-then-e-book c =
-    let bad = last-bad _ _ _ c.loop-a.invariant.0 _ c.find_far-e.ensures.value c.loop-a-test.true c.if-e-book.true in
-    let e = (left_is _ _ _ _ _ _ c.loop-a.invariant.1 (first-is l)) (good-texts-last _ _ _ c.loop-a.invariant.0 _ c.find_far-e.ensures.value c.if-e-book.true) in
-    record { index_after = (λ i. (sym bad i, e i)); by_index = λ n e. absurd (not-holding _ n e) }
 
 pub slice_bounds-is_next-end : goal.slice_bounds-is_next-end
 slice_bounds-is_next-end c =
@@ -74,22 +49,6 @@ loop-a-preserved c =
     let entered = entered-more _ _ _ _ _ c.loop-a.invariant.1 c.loop-a.invariant.0.count c.loop-a.invariant.2 c.loop-a.invariant.5 c.loop-a.invariant.4 c.find_far-e.result _ small.0 (search rules) within (next-new _ _ e) is texts in
     (line-good _ _ _ c.loop-a.invariant.0 _ c.find_far-e.ensures.value within e, entered, omega (arith, small.1, c.loop-a.invariant.0.count), search rules, search rules, c.loop-a.invariant.5)
 
-pub shape_of-index-else-is_next : goal.shape_of-index-else-is_next
-shape_of-index-else-is_next c = (entered-length _ _ _ _ _ c.loop-a.invariant.1 ∙ ap length (first-is l) ∙ pour-length 0 (index_of []) _)
 
-pub returns-else-is_next : goal.returns-else-is_next
-returns-else-is_next c =
-    let within : c.find_far-e.result < length c.args.book.now = search rules in
-    let e = sym c.is_next.ensures ∙ c.if-is_next.false in
-    let bad = line-bad _ _ _ c.loop-a.invariant.0 _ c.find_far-e.ensures.value within e in
-    let is = (left_is _ _ _ _ _ _ c.loop-a.invariant.1 (first-is l)) (good-texts-bad _ _ _ c.loop-a.invariant.0 _ c.find_far-e.ensures.value within e) in
-    record { index_after = (λ i. (sym bad i, is i)); by_index = λ n e. absurd (not-holding _ n e) }
 
-pub shape_of-index : goal.shape_of-index
-shape_of-index c = (entered-length _ _ _ _ _ c.loop-a.invariant.1 ∙ ap length (first-is l) ∙ pour-length 0 (index_of []) _)
 
-pub returns : goal.returns
-returns c =
-    let good = good-end _ _ _ c.loop-a.invariant.0 c.loop-a-test.false in
-    let is = (left_is _ _ _ _ _ _ c.loop-a.invariant.1 (first-is l)) (good-texts-end _ _ _ c.loop-a.invariant.0 c.loop-a-test.false) in
-    record { index_after = (λ i. (sym good i, is i)); by_index = λ n e. indexed-whole _ _ _ ((entered-indexed _ _ _ _ _ c.loop-a.invariant.1 c.loop-a.invariant.0.count c.loop-a.invariant.2 c.loop-a.invariant.5 c.loop-a.invariant.4)) c.loop-a-test.false }

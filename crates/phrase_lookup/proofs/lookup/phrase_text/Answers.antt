@@ -9,6 +9,7 @@ pub own_at-requires : goal.own_at-requires
 own_at-requires c = (c.requires.0, c.requires.2 c.if-is_own.true)
 
 pub returns-then-is_own : goal.returns-then-is_own
+unfolding phrase_in own_text
 returns-then-is_own c = simp c.if-is_own.true c.own_at.ensures
 
 pub text_of-requires : goal.text_of-requires

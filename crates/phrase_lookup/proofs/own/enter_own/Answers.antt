@@ -5,4 +5,5 @@ use borrow.Author.Rules.{rules}
 use Rattle.phrase_lookup.proofs.own.enter_own.Goals as goal
 
 pub returns : goal.returns
+unfolding own_number
 returns c = rw (c.count_of.ensures, c.key_of.ensures) refl

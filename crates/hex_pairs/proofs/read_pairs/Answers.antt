@@ -10,12 +10,5 @@ use Rattle.hex_pairs.proofs.read_pairs.Goals as goal
 pub loop-a-init : goal.loop-a-init
 loop-a-init c = (lines-started _ _, search rules, search rules)
 
-pub returns-then-not-read : goal.returns-then-not-read
-returns-then-not-read c = lines-fault _ _ _ _ _ _ c.loop-a.invariant.0 _ _ _ _ _ c.loop-a-test.true c.find-e.ensures.value c.unlabelled.ensures c.read_line-read.ensures c.if-not-read.true (search rules) (search rules)
 
-pub loop-a-preserved : goal.loop-a-preserved
-loop-a-preserved c = let w = c.if-not-read.false in
-    (lines-onward _ _ _ _ _ _ c.loop-a.invariant.0 _ _ _ _ _ c.loop-a-test.true c.find-e.ensures.value c.unlabelled.ensures c.read_line-read.ensures w (search rules) (search rules), search rules, search rules)
 
-pub returns : goal.returns
-returns c = lines-stopped _ _ _ _ _ _ c.loop-a.invariant.0 c.loop-a-test.false

@@ -4,6 +4,7 @@ use borrow.Author.Rules.{rules}
 -- `accepted_kind` meets its contract: the line begins with its kind's word.
 use borrow.Author.Tests.{eq-eqb, ne_eqb}
 use Rattle.accepted_lines.proofs.Begins.{begins, kind-two, kind-six, kind-goto}
+use native.Mathlib.Omega.{arith}
 use Rattle.accepted_lines.proofs.accepted.accepted_kind.Goals as goal
 
 pub bounds-s-1 : goal.bounds-s-1
@@ -39,3 +40,5 @@ returns-in-108 c = kind-two _ _ 108 (begins _ c.requires) c.in-108.is
 pub returns-in-105 : goal.returns-in-105
 returns-in-105 c = kind-two _ _ 105 (begins _ c.requires) c.in-105.is
 
+pub returns-in_default : goal.returns-in_default
+returns-in_default c = kind-goto _ _ (begins _ c.requires) (λ e. omega arith) (λ e. omega arith) (λ e. omega arith) (λ e. omega arith) (λ e. omega arith) (λ e. omega arith)

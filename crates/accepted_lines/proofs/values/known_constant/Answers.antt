@@ -39,7 +39,7 @@ overflow_cast-result c =
 pub returns-then-s-a-eq45 : goal.returns-then-s-a-eq45
 returns-then-s-a-eq45 c =
     let k = known-below c.args.s.now c.args.a c.requires.0 c.requires.1 c.if-s-a-eq45.true in
-    record { s_value = simp (minus-bits (c.known_number-n.result.value - 1) (omega (arith, k.number.digits.1, c.known_number-n.ensures.value_value))) (c.requires.1 ∙ ap some (k.value ∙ ap (λ c.known_number-n.result.value. negsuc (c.known_number-n.result.value - 1)) (sym c.known_number-n.ensures.value_value))); s_value_2 = c.known_number-n.ensures.s_value ∙ k.rest }
+    record { s_value = simp (minus-bits (c.known_number-n.result.value - 1) (omega (arith, k.number.digits.1, c.known_number-n.ensures.value_value))) (c.requires.1 ∙ ap some (k.value ∙ ap (λ n. negsuc (n - 1)) (sym c.known_number-n.ensures.value_value))); s_value_2 = c.known_number-n.ensures.s_value ∙ k.rest }
 
 pub known_number-n-requires-2 : goal.known_number-n-requires-2
 known_number-n-requires-2 c =

@@ -54,6 +54,18 @@ returns-else-s-a-eq116 c =
     let k = known-operator c.args.s.now c.args.a c.requires.0.0 c.requires.0.1 c.requires.1 in
     record { s_value = c.requires.0.1 ∙ ap some (sym (op-both k 108 c.in-108.is (ne_eqb _ _ c.if-s-a-eq116.false))); a_in_bounds = (omega arith, k.next) }
 
+pub returns-then-s-a-eq116-2 : goal.returns-then-s-a-eq116-2
+returns-then-s-a-eq116-2 c =
+    let k = known-operator c.args.s.now c.args.a c.requires.0.0 c.requires.0.1 c.requires.1 in
+    record {
+      s_value = c.requires.0.1 ∙ ap some (sym (op-last k (λ e. omega arith) (λ e. omega arith) (λ e. omega arith) (eq-eqb _ _ c.if-s-a-eq116-2.true)));
+      a_in_bounds = (omega arith, k.next);
+    }
 
-
-
+pub returns-else-s-a-eq116-2 : goal.returns-else-s-a-eq116-2
+returns-else-s-a-eq116-2 c =
+    let k = known-operator c.args.s.now c.args.a c.requires.0.0 c.requires.0.1 c.requires.1 in
+    record {
+      s_value = c.requires.0.1 ∙ ap some (sym (op-last k (λ e. omega arith) (λ e. omega arith) (λ e. omega arith) (ne_eqb _ _ c.if-s-a-eq116-2.false)));
+      a_in_bounds = (omega arith, k.next);
+    }

@@ -24,3 +24,9 @@ returns-in-Faulty c = let g = c.args in
     ∙ ap (λ h. cond (allowed_line g.s.now) h (Faulty Byte)) (sym c.in-Faulty.is ∙ c.read_fields-head.ensures ∙ ap head_of (sym k))
     ∙ sym (line-judged g.form g.s.now)
 
+pub returns-in_default : goal.returns-in_default
+returns-in_default c =
+    let g = c.args in
+    let k = fields-of-kind g.form g.s.now _ _ _ c.find-e.ensures.value refl c.kind_of.ensures in
+    let h = c.read_fields-head.ensures ∙ ap head_of (sym k) in
+    h ∙ ap head_of (sym (line-by-fields g.form g.s.now (head-clean (fields_line g.form (split comma g.s.now)) h c.in_default.not-Faulty)))

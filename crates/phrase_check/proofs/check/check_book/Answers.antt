@@ -1,31 +1,22 @@
 -- `check_book` meets its contract: the lines before a are n good lines, and the numbers begin with their index.
 use mathlib.Core.List.{[]}
-use Rattle.output.specs.Pour.{pour}
 use Rattle.output.proofs.Pour.{pour-length}
-use Rattle.phrases.specs.Book.{good_texts}
-use Rattle.phrases.specs.Lookup.{book_texts}
-use Rattle.phrases.specs.Index.{list_of, index_of, Indexed}
+use Rattle.phrases.specs.Index.{list_of, index_of}
 use borrow.Author.Rules.{rules}
 use borrow.Author.Rules.{rules}
 use native.Mathlib.Omega.{arith}
-use Prim.Native.Nat.{◌-◌, ◌≤◌, ◌<◌}
-use mathlib.Core.Path.{◌≡◌, sym, ap, ◌∙◌}
-use lib.ListN.{length, take}
+use Prim.Native.Nat.{◌<◌}
+use mathlib.Core.Path.{sym, ap, ◌∙◌}
+use lib.ListN.{length}
 use lib.Seq.{length-take-le}
-use Rattle.phrase_check.proofs.Checked.{GoodLines, good_none, good-end, good-texts-end, good-texts-last, good-texts-bad, last-bad, line-bad, line-good, next_small, next-new}
+use Rattle.phrase_check.proofs.Checked.{good_none, good-end, good-texts-end, good-texts-last, good-texts-bad, last-bad, line-bad, line-good, next_small, next-new}
 use Rattle.phrases.proofs.BookLines.{front-texts}
-use Rattle.phrases.proofs.Entered.{Entered, entered-none, cleared, entered-length, entered-indexed, before_small, entered-more, left_is, not-holding, indexed-whole}
+use Rattle.phrases.proofs.Entered.{entered-none, cleared, entered-length, entered-indexed, before_small, entered-more, left_is, indexed-whole}
 use Rattle.phrase_check.proofs.check.check_book.Goals as goal
-
-
-
-
 
 pub loop-a-init : goal.loop-a-init
 loop-a-init c =
     (good_none _, entered-none _ _ _ (cleared _ _ c.clear.ensures), search rules, search rules, search rules, omega (arith, ap length c.clear.ensures, pour-length 0 (index_of []) c.args.index.now, c.requires))
-
-
 
 pub slice_bounds-is_next-end : goal.slice_bounds-is_next-end
 slice_bounds-is_next-end c =
@@ -49,6 +40,26 @@ loop-a-preserved c =
     let entered = entered-more _ _ _ _ _ c.loop-a.invariant.1 c.loop-a.invariant.0.count c.loop-a.invariant.2 c.loop-a.invariant.5 c.loop-a.invariant.4 c.find_far-e.result _ small.0 (search rules) within (next-new _ _ e) is texts in
     (line-good _ _ _ c.loop-a.invariant.0 _ c.find_far-e.ensures.value within e, entered, omega (arith, small.1, c.loop-a.invariant.0.count), search rules, search rules, c.loop-a.invariant.5)
 
+pub returns-then-e-book-clause-index_after : goal.returns-then-e-book-clause-index_after
+returns-then-e-book-clause-index_after c =
+    let bad = last-bad _ _ _ c.loop-a.invariant.0 _ c.find_far-e.ensures.value c.loop-a-test.true c.if-e-book.true in
+    let same = left_is _ _ _ _ _ _ c.loop-a.invariant.1 c.clear.ensures (good-texts-last _ _ _ c.loop-a.invariant.0 _ c.find_far-e.ensures.value c.if-e-book.true) in
+    λ i. (sym bad i, same i)
 
+pub returns-else-is_next-clause-index_after : goal.returns-else-is_next-clause-index_after
+returns-else-is_next-clause-index_after c =
+    let within : c.find_far-e.result < length c.args.book.now = omega (arith, c.find_far-e.ensures.upper_bound, c.if-e-book.false) in
+    let e = sym c.is_next.ensures ∙ c.if-is_next.false in
+    let bad = line-bad _ _ _ c.loop-a.invariant.0 _ c.find_far-e.ensures.value within e in
+    let same = left_is _ _ _ _ _ _ c.loop-a.invariant.1 c.clear.ensures (good-texts-bad _ _ _ c.loop-a.invariant.0 _ c.find_far-e.ensures.value within e) in
+    λ i. (sym bad i, same i)
 
+pub returns-clause-index_after : goal.returns-clause-index_after
+returns-clause-index_after c =
+    let good = good-end _ _ _ c.loop-a.invariant.0 c.loop-a-test.false in
+    let same = left_is _ _ _ _ _ _ c.loop-a.invariant.1 c.clear.ensures (good-texts-end _ _ _ c.loop-a.invariant.0 c.loop-a-test.false) in
+    λ i. (sym good i, same i)
 
+pub returns-clause-by_index : goal.returns-clause-by_index
+returns-clause-by_index c =
+    λ n e. indexed-whole _ _ _ (entered-indexed _ _ _ _ _ c.loop-a.invariant.1 c.loop-a.invariant.0.count c.loop-a.invariant.2 c.loop-a.invariant.5 c.loop-a.invariant.4) c.loop-a-test.false

@@ -7,7 +7,6 @@ use Rattle.phrases.specs.Lookup.{book_texts}
 use Rattle.phrases.proofs.Answers.{place_is}
 use Rattle.phrases.proofs.Entries.{indexed-count}
 use Rattle.phrase_check.proofs.Checked.{next-full, next-no-text, next-repeated, next-good}
-use borrow.Author.Rules.{rules}
 use Rattle.phrase_check.proofs.check.is_next.Goals as goal
 
 pub returns-then-count_of-ge-PHRASES : goal.returns-then-count_of-ge-PHRASES

@@ -1,17 +1,10 @@
 -- `clear` meets its contract: the first i numbers are those of the index of no texts, each 0.
-use borrow.Author.Rules.{rules}
-use native.Mathlib.Omega.{arith}
-use native.Mathlib.Nat.{zero-add}
 use Prim.Native.Nat.{◌-◌, ◌≤◌}
-use mathlib.Core.Path.{◌≡◌, sym, ap, ◌∙◌}
+use mathlib.Core.Path.{◌≡◌}
 use mathlib.Core.List.{[]}
-use lib.ListN.{length, take}
-use lib.Seq.{take_all}
+use lib.ListN.{take}
 use Rattle.output.specs.Pour.{pour}
-use Rattle.output.proofs.Pour.{pour-none, pour-more, pour-length}
 use Rattle.phrases.specs.Index.{index_of}
-use Rattle.phrases.proofs.Entries.{index-length}
-use Rattle.phrases.proofs.Entered.{none-zero}
 use Rattle.phrase_check.proofs.numbers.clear.Given as goal
 
 abbrev pub invariant-loop-i : goal.invariant-loop-i

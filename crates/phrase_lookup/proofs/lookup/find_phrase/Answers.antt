@@ -3,7 +3,6 @@ use native.Mathlib.Omega.{arith}
 use mathlib.Core.Path.{sym, ◌∙◌}
 use Rattle.phrases.specs.Phrases.{find}
 use Rattle.phrases.proofs.OwnEntries.{own-absent}
-use borrow.Author.Rules.{rules}
 use Rattle.phrase_lookup.proofs.Absent.{book-empty}
 use Rattle.phrase_lookup.proofs.lookup.find_phrase.Goals as goal
 

@@ -1,7 +1,6 @@
 -- `enter_own` meets its contract.
 use mathlib.Core.Path.{refl}
 use Rattle.phrases.specs.Own.{own_number}
-use borrow.Author.Rules.{rules}
 use Rattle.phrase_lookup.proofs.own.enter_own.Goals as goal
 
 pub returns : goal.returns

@@ -1,15 +1,9 @@
 -- `find_own` meets its contract: the text is none of the own phrases in front of k, nor one whose number has another sign.
-use Prim.Native.Nat.{ℕ, ◌+◌, ◌-◌, ◌≤◌, ◌<◌}
-use mathlib.Core.Path.{◌≡◌, sym, ap, ◌∙◌}
-use native.Mathlib.Omega.{arith}
+use Prim.Native.Nat.{ℕ, ◌-◌, ◌≤◌, ◌<◌}
+use mathlib.Core.Path.{◌≡◌}
 use mathlib.Core.Bool.{false}
-use lib.ListN.{length}
-use borrow.Author.Rules.{rules}
 use Rattle.text.specs.Parts.{same}
-use Rattle.phrases.specs.Lookup.{place_answer}
 use Rattle.phrases.specs.Own.{own_text}
-use Rattle.phrases.proofs.OwnEntries.{own-found, own-absent, others-more}
-use Rattle.phrase_lookup.proofs.OwnSigns.{numbers-end, numbers-length, others-on}
 use Rattle.phrase_lookup.proofs.own.find_own.Given as goal
 
 abbrev pub invariant-loop-k : goal.invariant-loop-k

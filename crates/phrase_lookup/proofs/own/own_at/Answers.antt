@@ -1,6 +1,5 @@
 -- `own_at` meets its contract: the number has the place and the length of the text.
 use Rattle.phrases.proofs.OwnEntries.{own_room, own-end, own-part}
-use borrow.Author.Rules.{rules}
 use Rattle.phrase_lookup.proofs.own.own_at.Goals as goal
 
 pub number_of-number-requires : goal.number_of-number-requires

@@ -1,10 +1,7 @@
 -- `find_sign` meets its contract: the first number of the sign from a on is the first from i on.
-use Prim.Native.Nat.{◌+◌, ◌≤◌, ◌-◌}
-use mathlib.Core.Path.{◌≡◌, sym, ◌∙◌}
-use lib.ListN.{length}
+use mathlib.Core.Path.{sym, ◌∙◌}
 use borrow.Author.Rules.{rules}
 use Rattle.text.proofs.Searches.{until-past}
-use Rattle.phrase_lookup.specs.Signs.{until_sign}
 use Rattle.phrase_lookup.proofs.SignSearch.{sign-here, sign-later, sign-none}
 use Rattle.phrase_lookup.proofs.signs.find_sign.Goals as goal
 

@@ -1,14 +1,8 @@
 -- `has_sign` meets its contract: the flag says whether the first number of the sign stands before the place i.
-use Prim.Native.Nat.{◌+◌, ◌≤◌, ◌<◌, ◌-◌}
-use native.Mathlib.Omega.{arith}
-use mathlib.Core.Path.{◌≡◌, sym, ◌∙◌}
-use mathlib.Core.Logic.{⊎_elim}
-use lib.ListN.{length}
+use Prim.Native.Nat.{◌≤◌, ◌-◌}
+use mathlib.Core.Path.{◌≡◌}
 use lib.Dec.{ltb}
-use borrow.Author.Tests.{le-ltb}
-use borrow.Author.Rules.{rules}
 use Rattle.phrase_lookup.specs.Signs.{until_sign}
-use Rattle.phrase_lookup.proofs.SignSearch.{sign-among, sign-not-among}
 use Rattle.phrase_lookup.proofs.signs.has_sign.Given as goal
 
 abbrev pub invariant-loop-i : goal.invariant-loop-i

@@ -1,4 +1,5 @@
 -- `copy_each` meets its contract. The loop's invariant: the characters passed are copied. The measure is the bits that are left.
+use Rattle.fields.specs.Places.{place_at}
 use borrow.Author.Rules.{rules}
 use Prim.Native.Nat.{◌^◌, ◌*◌, ◌-◌, ◌≤◌}
 use mathlib.Core.Path.{sym, ◌∙◌}
@@ -26,8 +27,6 @@ overflow_add-result c = let e = sym c.read_number.ensures ∙ c.in-Is.is in omeg
 pub shape_of-out-then-code-eq3 : goal.shape_of-out-then-code-eq3
 shape_of-out-then-code-eq3 c = kept _ _ _ _ _ c.loop-code.invariant.written
 
-pub returns-then-code-eq3 : goal.returns-then-code-eq3
-returns-then-code-eq3 c = let e = sym c.read_number.ensures ∙ c.in-Is.is in copy_ended c.requires.0 c.loop-code.invariant c.requires.3 _ (number-there _ _ c.args.width _ e) c.if-code-eq3.true
 
 pub overflow_cast-code : goal.overflow_cast-code
 overflow_cast-code c = let e = sym c.read_number.ensures ∙ c.in-Is.is in
@@ -42,3 +41,5 @@ loop-code-smaller c = let e = sym c.read_number.ensures ∙ c.in-Is.is in omega 
 
 pub loop-code-preserved : goal.loop-code-preserved
 loop-code-preserved c = let e = sym c.read_number.ensures ∙ c.in-Is.is in copy_more c.requires.0 c.loop-code.invariant c.requires.3 _ (number-there _ _ c.args.width _ e) c.if-code-eq3.false c.put_byte-end.ensures (omega arith)
+
+

@@ -1,4 +1,5 @@
 -- `read_constant` meets its contract: the code, then the length that it calls for.
+use Rattle.fields.specs.Places.{place_at}
 use mathlib.Core.Path.{◌∙◌}
 use borrow.Author.Rules.{rules}
 use Rattle.plate.specs.Plate.{constant}
@@ -8,6 +9,7 @@ use Rattle.plate_constants.proofs.SignedRead.{constant-code, constant-short, con
 use Rattle.plate_constants.proofs.constant.read_constant.Goals as goal
 
 pub returns-in_default : goal.returns-in_default
+unfolding constant place_at
 returns-in_default c =
     then-stopped _ _ _
     (field-stopped _ _ (c.read_field-field.ensures ∙ constant-code _ _) c.in_default.is

@@ -1,4 +1,5 @@
 -- `read_test` meets its contract: three fields, one after the other.
+use Rattle.fields.specs.Places.{place_at}
 use mathlib.Core.Path.{◌∙◌}
 use mir.Syntax.{w32}
 use mir.Facts.{to_z-of_z}
@@ -10,11 +11,13 @@ use Rattle.fields.proofs.Answers.{field-got, field-stopped, constant-got, consta
 use Rattle.plate_constants.proofs.tests.read_test.Goals as goal
 
 pub returns-in_default : goal.returns-in_default
+unfolding test place_at
 returns-in_default c =
     then-stopped _ _ _
     (field-stopped _ _ c.read_plain-first.ensures c.in_default.is c.refusal.ensures)
 
 pub returns-in_default-second : goal.returns-in_default-second
+unfolding test place_at
 returns-in_default-second c =
     then-stopped _ _ _
     (field-stopped _ _ c.read_field-second.ensures c.in_default-second.is c.refusal-in_default-second.ensures)
@@ -23,6 +26,7 @@ returns-in_default-second c =
     c.in-Is.is)
 
 pub returns-in_default-third : goal.returns-in_default-third
+unfolding test place_at
 returns-in_default-third c =
     then-stopped _ _ _
     (constant-stopped _ _ c.read_constant-third.ensures c.in_default-third.is c.refusal-in_default-third.ensures)
@@ -33,14 +37,3 @@ returns-in_default-third c =
     (field-got _ _ c.read_plain-first.ensures
     c.in-Is.is)
 
-pub returns : goal.returns
-returns c = let fits = to_z-of_z {w = w32} {z = c.in-Is-third.constant}
-    (record { sfits = c.known_told-in-Is-third-1.given.0.1 }) in
-    test-made _ _ c.op_of-op.ensures fits
-    ∙ then-got _ _ _ (constant-got _ _ c.read_constant-third.ensures c.in-Is-third.is)
-    ∙ then-got _ _ _
-    (field-got _ _ c.read_field-second.ensures
-    c.in-Is-second.is)
-    ∙ then-got _ _ _
-    (field-got _ _ c.read_plain-first.ensures
-    c.in-Is.is)

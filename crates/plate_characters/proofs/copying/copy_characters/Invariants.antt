@@ -1,14 +1,10 @@
 -- `copy_characters` meets its contract. The loops' invariant: the characters passed are copied. The inner loop also knows the bits that are
 -- left of the eight characters. The measures are the bits that are left, and the characters that are left of the eight.
-use Prim.Native.Nat.{◌+◌, ◌*◌, ◌-◌, ◌<◌}
-use mathlib.Core.Path.{◌≡◌, sym, ◌∙◌}
-use native.Mathlib.Omega.{arith}
+use Prim.Native.Nat.{◌+◌, ◌*◌, ◌-◌}
+use mathlib.Core.Path.{◌≡◌}
 use lib.ListN.{length}
-use borrow.Author.Rules.{rules}
-use Rattle.output.proofs.Pour.{kept}
-use Rattle.output.proofs.Poured.{ended}
-use Rattle.plate_characters.proofs.Cuts.{Left, left-start, left-number, left_below, left-more}
-use Rattle.plate_characters.proofs.TextCopy.{CopySoFar, copy_start, copy-known, copy-joined, copy_rest, copy_ended, copy_more}
+use Rattle.plate_characters.proofs.Cuts.{Left}
+use Rattle.plate_characters.proofs.TextCopy.{CopySoFar}
 use Rattle.plate_characters.proofs.copying.copy_characters.Given as goal
 
 abbrev pub invariant-loop-n : goal.invariant-loop-n

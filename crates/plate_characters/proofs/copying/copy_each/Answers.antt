@@ -1,15 +1,12 @@
 -- `copy_each` meets its contract. The loop's invariant: the characters passed are copied. The measure is the bits that are left.
-use Rattle.fields.specs.Places.{place_at}
-use borrow.Author.Rules.{rules}
-use Prim.Native.Nat.{◌^◌, ◌*◌, ◌-◌, ◌≤◌}
+use Prim.Native.Nat.{◌^◌, ◌≤◌}
 use mathlib.Core.Path.{sym, ◌∙◌}
 use native.Mathlib.Omega.{arith}
-use lib.ListN.{length}
 use lib.Pow.{pow_mono}
 use Rattle.output.proofs.Pour.{kept}
 use Rattle.bits.proofs.Reading.{number-below}
 use Rattle.fields.proofs.Onward.{number-there, number-end}
-use Rattle.plate_characters.proofs.TextCopy.{CopySoFar, copy_start, copy-cut, copy_ended, copy_more}
+use Rattle.plate_characters.proofs.TextCopy.{copy_start, copy-cut, copy_ended, copy_more}
 use Rattle.plate_characters.proofs.copying.copy_each.Goals as goal
 
 pub loop-code-init : goal.loop-code-init
@@ -27,6 +24,11 @@ overflow_add-result c = let e = sym c.read_number.ensures ∙ c.in-Is.is in omeg
 pub shape_of-out-then-code-eq3 : goal.shape_of-out-then-code-eq3
 shape_of-out-then-code-eq3 c = kept _ _ _ _ _ c.loop-code.invariant.written
 
+pub returns-then-code-eq3 : goal.returns-then-code-eq3
+returns-then-code-eq3 c =
+    let e = sym c.read_number.ensures ∙ c.in-Is.is in
+    let r = copy_ended c.requires.0 c.loop-code.invariant c.requires.3 _ (number-there _ _ c.args.width _ e) c.if-code-eq3.true in
+    record { out_after = r.0; next_value = r.1 }
 
 pub overflow_cast-code : goal.overflow_cast-code
 overflow_cast-code c = let e = sym c.read_number.ensures ∙ c.in-Is.is in
@@ -41,5 +43,3 @@ loop-code-smaller c = let e = sym c.read_number.ensures ∙ c.in-Is.is in omega 
 
 pub loop-code-preserved : goal.loop-code-preserved
 loop-code-preserved c = let e = sym c.read_number.ensures ∙ c.in-Is.is in copy_more c.requires.0 c.loop-code.invariant c.requires.3 _ (number-there _ _ c.args.width _ e) c.if-code-eq3.false c.put_byte-end.ensures (omega arith)
-
-

@@ -1,14 +1,7 @@
 -- `copy_each` meets its contract. The loop's invariant: the characters passed are copied. The measure is the bits that are left.
-use borrow.Author.Rules.{rules}
-use Prim.Native.Nat.{◌^◌, ◌*◌, ◌-◌, ◌≤◌}
-use mathlib.Core.Path.{sym, ◌∙◌}
-use native.Mathlib.Omega.{arith}
+use Prim.Native.Nat.{◌*◌, ◌-◌}
 use lib.ListN.{length}
-use lib.Pow.{pow_mono}
-use Rattle.output.proofs.Pour.{kept}
-use Rattle.bits.proofs.Reading.{number-below}
-use Rattle.fields.proofs.Onward.{number-there, number-end}
-use Rattle.plate_characters.proofs.TextCopy.{CopySoFar, copy_start, copy-cut, copy_ended, copy_more}
+use Rattle.plate_characters.proofs.TextCopy.{CopySoFar}
 use Rattle.plate_characters.proofs.copying.copy_each.Given as goal
 
 abbrev pub invariant-loop-code : goal.invariant-loop-code

@@ -1,15 +1,12 @@
 -- `gather` meets its contract. The loop's invariant: the characters passed are counted and copied. The measure is the bits that are left.
-use borrow.Author.Rules.{rules}
-use Prim.Native.Nat.{◌*◌, ◌-◌}
 use mathlib.Core.Path.{ap, ◌∙◌}
 use native.Mathlib.Omega.{arith}
-use lib.ListN.{length}
 use Rattle.output.proofs.Pour.{kept}
 use Rattle.output.proofs.Poured.{stored}
 use Rattle.fields.specs.Places.{size_read}
 use Rattle.fields.proofs.Answers.{field-got, field-refused}
 use Rattle.plate_characters.proofs.Characters.{so-far-stopped, so-far-ended, character-read}
-use Rattle.plate_characters.proofs.Gathers.{GatherSoFar, gather-start, gather-refused, gather-byte, gather-more}
+use Rattle.plate_characters.proofs.Gathers.{gather-start, gather-refused, gather-byte, gather-more}
 use Rattle.plate_characters.proofs.gathering.gather.Goals as goal
 
 pub loop-code-init : goal.loop-code-init

@@ -1,5 +1,4 @@
 -- `is_character` meets its contract: ETX, or a byte of a text.
-use borrow.Author.Rules.{rules}
 use borrow.Author.Tests.{eq-eqb, ne_eqb}
 use Rattle.plate_characters.proofs.spelling.is_character.Goals as goal
 

@@ -1,14 +1,8 @@
 -- `last_size` meets its contract. The loop's invariant: the characters passed and those behind them are the whole text.
 -- The measure is the bits that are left.
-use borrow.Author.Rules.{rules}
 use Prim.Native.Nat.{◌*◌, ◌-◌}
-use mathlib.Core.Path.{ap, ◌∙◌}
-use native.Mathlib.Nat.{le-mul_of_pos_right}
-use native.Mathlib.Omega.{arith}
 use lib.ListN.{length}
-use Rattle.fields.proofs.Answers.{field-got, field-refused}
-use Rattle.fields.specs.Places.{size_read}
-use Rattle.plate_characters.proofs.Characters.{SizeSoFar, size-start, size-more, so-far-stopped, so-far-ended, character-read}
+use Rattle.plate_characters.proofs.Characters.{SizeSoFar}
 use Rattle.plate_characters.proofs.spelling.last_size.Given as goal
 
 abbrev pub invariant-loop-code : goal.invariant-loop-code

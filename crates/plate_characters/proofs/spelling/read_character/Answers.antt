@@ -1,6 +1,5 @@
 -- `read_character` meets its contract: a number of so many bits, judged.
 use mathlib.Core.Path.{sym, ◌∙◌}
-use borrow.Author.Rules.{rules}
 use Rattle.fields.proofs.Onward.{judged-got, judged-not}
 use Rattle.fields.proofs.Answers.{field-got, field-kept}
 use Rattle.plate_characters.proofs.spelling.read_character.Goals as goal

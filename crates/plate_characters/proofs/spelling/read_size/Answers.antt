@@ -1,27 +1,12 @@
 -- `read_size` meets its contract. The loops' invariant: the characters passed and those behind them are the whole text. The inner loop also
 -- knows the bits that are left of the eight characters. The measures are the bits that are left, and the characters left of the eight.
-use Prim.Native.Nat.{◌+◌, ◌*◌, ◌-◌, ◌<◌}
-use mathlib.Core.Path.{◌≡◌, sym, ap, ◌∙◌}
+use Prim.Native.Nat.{◌<◌}
+use mathlib.Core.Path.{sym, ap, ◌∙◌}
 use native.Mathlib.Omega.{arith}
-use lib.ListN.{length}
-use borrow.Author.Rules.{rules}
-use borrow.Author.Tests.{not-false, not-true}
 use Rattle.fields.specs.Places.{size_read, refusal_of}
 use Rattle.fields.proofs.Answers.{answered, size-got}
-use Rattle.plate_characters.proofs.Characters.{
-  SizeSoFar,
-  size-start,
-  size-more,
-  size_few,
-  size-joined,
-  so-far-stopped,
-  so-far-behind,
-  so-far-ended,
-  character-end,
-  character-text,
-  character-wrong,
-}
-use Rattle.plate_characters.proofs.Cuts.{Left, left-start, left-number, left-more}
+use Rattle.plate_characters.proofs.Characters.{size-start, size-more, size_few, size-joined, so-far-stopped, so-far-behind, so-far-ended, character-end, character-text, character-wrong}
+use Rattle.plate_characters.proofs.Cuts.{left-start, left-number, left-more}
 use Rattle.plate_characters.proofs.spelling.read_size.Goals as goal
 
 some_bits : 0 < 7

@@ -3,7 +3,6 @@ use mathlib.Core.Path.{refl}
 use native.Mathlib.Omega.{arith}
 use borrow.Author.Tests.{lt-ltb, le-ltb}
 use Rattle.decimals.proofs.Signs.{minus-bits}
-use borrow.Author.Rules.{rules}
 use Rattle.plate_constants.proofs.constant.long_constant.Goals as goal
 
 pub returns-then-value-lt2147483648 : goal.returns-then-value-lt2147483648

@@ -1,7 +1,6 @@
 -- `read_constant` meets its contract: the code, then the length that it calls for.
 use Rattle.fields.specs.Places.{place_at}
 use mathlib.Core.Path.{◌∙◌}
-use borrow.Author.Rules.{rules}
 use Rattle.plate.specs.Plate.{constant}
 use Rattle.fields.proofs.Onward.{then-stopped}
 use Rattle.fields.proofs.Answers.{field-stopped}

@@ -7,7 +7,6 @@ use Rattle.bits.specs.Number.{number_in}
 use Rattle.bits.specs.Bits.{bytes_bits}
 use Rattle.fields.proofs.Onward.{number-there, number_cut, number-end}
 use Rattle.plate_constants.proofs.Halves.{halves_in, first_ends, second-ends}
-use borrow.Author.Rules.{rules}
 use Rattle.plate_constants.proofs.constant.read_halves.Goals as goal
 
 pub returns-in_default : goal.returns-in_default

@@ -2,7 +2,6 @@
 use mathlib.Core.Path.{sym, ap, ◌∙◌, refl}
 use mathlib.Core.Bool.{not}
 use native.Mathlib.Omega.{arith}
-use borrow.Author.Rules.{rules}
 use Rattle.plate.specs.Plate.{long}
 use Rattle.plate.proofs.Readers.{gives-number}
 use Rattle.fields.proofs.Onward.{got-good, then-stopped, judged-got, judged-not, judged-stopped}

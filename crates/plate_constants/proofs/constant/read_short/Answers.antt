@@ -1,7 +1,6 @@
 -- `read_short` meets its contract: a number of 16 bits, as an i32.
 use mathlib.Core.Path.{refl}
 use native.Mathlib.Omega.{arith}
-use borrow.Author.Rules.{rules}
 use Rattle.plate.proofs.Readers.{gives-number}
 use Rattle.fields.proofs.Onward.{got-good, then-stopped}
 use Rattle.fields.proofs.Answers.{field-got, field-stopped}

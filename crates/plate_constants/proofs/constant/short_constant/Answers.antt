@@ -5,7 +5,6 @@ use lib.IntN.{pos, ◌-ℤ◌}
 use mir.Syntax.{w32}
 use mir.Val.{to_z}
 use mir.Facts.{to_z_pos}
-use borrow.Author.Rules.{rules}
 use Prim.Native.Nat.{◌+◌, ◌%◌}
 use Rattle.plate.specs.Plate.{signed}
 use Rattle.plate.proofs.Constants.{signed-small}

@@ -37,3 +37,15 @@ returns-in_default-third c =
     (field-got _ _ c.read_plain-first.ensures
     c.in-Is.is)
 
+pub returns : goal.returns
+unfolding test place_at
+returns c = let fits = to_z-of_z {w = w32} {z = c.in-Is-third.constant}
+    (record { sfits = search rules }) in
+    test-made _ _ c.op_of-op.ensures fits
+    ∙ then-got _ _ _ (constant-got _ _ c.read_constant-third.ensures c.in-Is-third.is)
+    ∙ then-got _ _ _
+    (field-got _ _ c.read_field-second.ensures
+    c.in-Is-second.is)
+    ∙ then-got _ _ _
+    (field-got _ _ c.read_plain-first.ensures
+    c.in-Is.is)

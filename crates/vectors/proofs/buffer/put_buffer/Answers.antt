@@ -7,6 +7,7 @@ use borrow.Author.Rules.{rules}
 use Rattle.vectors.proofs.buffer.put_buffer.Goals as goal
 
 pub returns-then-bytes-le64 : goal.returns-then-bytes-le64
+unfolding buffer_text
 returns-then-bytes-le64 c = rw (le-leb _ 64 c.if-bytes-le64.true) c.put_pairs.ensures
 
 pub returns : goal.returns

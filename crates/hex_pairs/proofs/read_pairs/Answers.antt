@@ -12,3 +12,5 @@ loop-a-init c = (lines-started _ _, search rules, search rules)
 
 
 
+pub returns : goal.returns
+returns c = record { out_after = (lines-stopped _ _ _ _ _ _ c.loop-a.invariant.0 c.loop-a-test.false).0; fault_value = (lines-stopped _ _ _ _ _ _ c.loop-a.invariant.0 c.loop-a-test.false).1 }

@@ -4,9 +4,6 @@ use Rattle.hex_pairs.proofs.Labels.{label-fits, label-off, label-none}
 use borrow.Author.Rules.{rules}
 use Rattle.hex_pairs.proofs.unlabelled.Goals as goal
 
--- UNKNOWN slice-aggregate-same : tie.Need-slice-aggregate-same
--- UNKNOWN slice-aggregate-same c = search rules
-
 pub slice_bounds-result-count : goal.slice_bounds-result-count
 slice_bounds-result-count c = label-fits c.args.line.now _ _ c.front.ensures c.same.ensures c.if-same.true
 

@@ -18,4 +18,3 @@ returns-in-Fi c = simp c.in-Fi.is (c.fi_fault.ensures c.args.opens.now)
 
 pub returns-in-Faulty : goal.returns-in-Faulty
 returns-in-Faulty c = simp c.in-Faulty.is
-

@@ -1,4 +1,5 @@
 -- `enter_phrase` meets its contract: the text stands 7 bytes behind the line's start.
+use Rattle.check_lines.specs.Numbers.{entered}
 use mathlib.Core.Path.{sym, ◌∙◌}
 use native.Mathlib.Omega.{arith}
 use borrow.Author.Rules.{rules}
@@ -25,3 +26,5 @@ enter_own-requires c =
 pub returns-in-Phrase : goal.returns-in-Phrase
 returns-in-Phrase c = c.enter_own.ensures ∙ sym (entered-phrase _ _ _ _ _ c.in-Phrase.is)
 
+pub returns-in_default : goal.returns-in_default
+returns-in_default c = sym (entered-other _ _ _ _ _ _ c.in_default.not-Phrase)

@@ -17,7 +17,6 @@ turned-requires c = let h = else-has-if _ _ (rw c.in-Else.is at c.requires.0) in
 pub closed-requires : goal.closed-requires
 closed-requires c = fi-has-if _ _ (rw c.in-Fi.is at c.requires.0)
 
-
 pub returns-in-Phrase : goal.returns-in-Phrase
 returns-in-Phrase c = λ x. simp c.in-Phrase.is (c.one_more_phrase.ensures c.args.n x c.args.opens.now c.requires.1)
 
@@ -32,4 +31,3 @@ returns-in-Fi c = λ x. simp c.in-Fi.is (c.closed.ensures c.args.n c.args.opens.
 
 pub returns-in-Faulty : goal.returns-in-Faulty
 returns-in-Faulty c = λ x. simp c.in-Faulty.is (record { holds = λ own e. record { own = e; rest = refl }; sound = c.requires.1 })
-

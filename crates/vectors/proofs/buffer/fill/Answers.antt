@@ -12,3 +12,7 @@ loop-i-preserved c = (search rules, search rules, content-more _ _ c.loop-i-test
 
 pub returns : goal.returns
 returns c = content-all _ _ (search rules) (search rules) c.loop-i.invariant.2 ∙ ap content c.loop-i.invariant.0
+
+pub loop-i-init : goal.loop-i-init
+unfolding content
+loop-i-init c = search rules

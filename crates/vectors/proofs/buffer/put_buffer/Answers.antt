@@ -11,6 +11,7 @@ unfolding buffer_text
 returns-then-bytes-le64 c = rw (le-leb _ 64 c.if-bytes-le64.true) c.put_pairs.ensures
 
 pub returns : goal.returns
+unfolding buffer_text
 returns c =
     let first = rw c.sum.ensures at c.put_natural-end.ensures in
     let second = rw c.sum-2.ensures at c.put_natural.ensures in

@@ -30,3 +30,7 @@ loop-i-preserved c =
 
 pub returns : goal.returns
 returns c = rw (take_all _ _ c.loop-i-test.false) at c.loop-i.invariant.0
+
+pub loop-i-init : goal.loop-i-init
+unfolding sum_of
+loop-i-init c = search rules

@@ -6,6 +6,7 @@ use borrow.Author.Rules.{rules}
 use Rattle.vectors.proofs.lines.put_lent.Goals as goal
 
 pub returns : goal.returns
+unfolding lent_end
 returns c =
     let one = then _ _ _ _ _ _ _ c.put_byte-end.ensures c.put_buffer-end.ensures (omega arith) in
     then _ _ _ _ _ _ _ one c.put_byte.ensures (omega arith)

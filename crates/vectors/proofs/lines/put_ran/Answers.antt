@@ -6,4 +6,5 @@ use borrow.Author.Rules.{rules}
 use Rattle.vectors.proofs.lines.put_ran.Goals as goal
 
 pub returns : goal.returns
+unfolding ran_line
 returns c = then _ _ _ _ _ _ _ c.put_ran_values-end.ensures c.put_lent.ensures (omega arith)

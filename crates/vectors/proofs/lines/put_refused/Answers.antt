@@ -4,13 +4,7 @@ use Rattle.output.proofs.Pour.{then}
 use borrow.Author.Rules.{rules}
 use Rattle.vectors.proofs.lines.put_refused.Goals as goal
 
--- UNKNOWN slice-aggregate-put-labelled : tie.Need-slice-aggregate-put-labelled
--- UNKNOWN slice-aggregate-put-labelled c = search rules
-
--- UNKNOWN slice-aggregate-put-labelled-2 : tie.Need-slice-aggregate-put-labelled-2
--- UNKNOWN slice-aggregate-put-labelled-2 c = search rules
-
 pub returns : goal.returns
 returns c =
-    let number = rw c.number_of-number.ensures at c.put_labelled.ensures in
+    let number = rw c.number_of-number.ensures at c.put_labelled-end.ensures in
     then _ _ _ _ _ _ _ number c.put_labelled.ensures (omega arith)

@@ -6,4 +6,5 @@ use borrow.Author.Rules.{rules}
 use Rattle.vectors.proofs.lines.put_written.Goals as goal
 
 pub returns : goal.returns
+unfolding written_line
 returns c = then _ _ _ _ _ _ _ c.put_written_values-end.ensures c.put_lent.ensures (omega arith)

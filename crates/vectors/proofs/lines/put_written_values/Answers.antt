@@ -2,9 +2,6 @@
 use borrow.Author.Rules.{rules}
 use Rattle.vectors.proofs.lines.put_written_values.Goals as goal
 
--- UNKNOWN slice-aggregate-put-labelled : tie.Need-slice-aggregate-put-labelled
--- UNKNOWN slice-aggregate-put-labelled c = search rules
-
 pub returns-in-Done : goal.returns-in-Done
 returns-in-Done c = rw c.in-Done.is c.put_labelled.ensures
 

@@ -14,6 +14,8 @@ loop-a-init c = (search rules, refl)
 pub returns-then-not-are_ascii : goal.returns-then-not-are_ascii
 returns-then-not-are_ascii c = c.letters_from.ensures ∙ c.loop-a.invariant.1
 
-
 pub returns : goal.returns
 returns c = c.letters_from-2.ensures ∙ c.loop-a.invariant.1
+
+pub loop-a-preserved : goal.loop-a-preserved
+loop-a-preserved c = (search rules, sym (past_ascii c.args.s.now c.loop-a.a (sym c.are_ascii.ensures ∙ c.if-not-are_ascii.false)) ∙ c.loop-a.invariant.1)

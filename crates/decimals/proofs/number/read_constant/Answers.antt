@@ -19,10 +19,6 @@ returns-in_default c =
     let e = natural-wrong _ _ (sym c.read_natural.ensures ∙ c.in_default.is) in
     simp (constant-minus c.args.s.now c.if-s-eq0.false c.if-s-eq45.true, e)
 
-
-
-
-
 pub returns-in_default-read_natural : goal.returns-in_default-read_natural
 returns-in_default-read_natural c =
     let e = natural-wrong _ _ (sym c.read_natural-2.ensures ∙ c.in_default-read_natural.is) in
@@ -40,3 +36,24 @@ overflow_cast-result-2 c = record { sfits = omega (arith, (without_sign c).1) }
 
 pub returns : goal.returns
 returns c = simp ((without_sign c).0, to_z_pos w32 {n = c.in-Is-read_natural.n} (omega (arith, (without_sign c).1)))
+
+-- a number behind a minus
+pub returns-then-n-eq0 : goal.returns-then-n-eq0
+returns-then-n-eq0 c =
+    let e = sym c.read_natural.ensures ∙ c.in-Is.is in
+    simp (constant-minus c.args.s.now c.if-s-eq0.false c.if-s-eq45.true, natural-is _ _ e, c.if-n-eq0.true)
+
+pub overflow_cast-result : goal.overflow_cast-result
+overflow_cast-result c =
+    let e = sym c.read_natural.ensures ∙ c.in-Is.is in record { sfits = omega (arith, natural-at-most _ _ e) }
+
+pub returns-then-s-eq45 : goal.returns-then-s-eq45
+returns-then-s-eq45 c =
+    let e = sym c.read_natural.ensures ∙ c.in-Is.is in
+    let l : c.in-Is.n ≤ 2147483648 = natural-at-most _ _ e in
+    simp (
+      constant-minus c.args.s.now c.if-s-eq0.false c.if-s-eq45.true,
+      natural-is _ _ e,
+      negative-some _ c.if-n-eq0.false,
+      minus-bits (c.in-Is.n - 1) (omega arith),
+    )

@@ -17,7 +17,7 @@ pub loop-i-preserved : goal.loop-i-preserved
 loop-i-preserved c = let g = c.args in
     let h : g.a + c.loop-i.i < length g.s.now = search rules in
     let e : g.a + (c.loop-i.i + 1) ≡ g.a + c.loop-i.i + 1 = omega arith in (
-      rw e ((elim c.if-s-a.branch [ then-s-a w ↦ omega (arith, w.1, c.loop-i.invariant.0, count-here g.x g.s.now (g.a + c.loop-i.i) h w.if-s-a.true) | else-s-a w ↦ omega (arith, w.1, c.loop-i.invariant.0, count-other g.x g.s.now (g.a + c.loop-i.i) h w.if-s-a.false) ]),
+      rw e (elim c.if-s-a.branch [ then-s-a w ↦ omega (arith, w.n-is, c.loop-i.invariant.0, count-here g.x g.s.now (g.a + c.loop-i.i) h w.if-s-a.true) | else-s-a w ↦ omega (arith, w.n-is, c.loop-i.invariant.0, count-other g.x g.s.now (g.a + c.loop-i.i) h w.if-s-a.false) ]),
       (elim c.if-s-a.branch [ then-s-a w ↦ search rules | else-s-a w ↦ search rules ]),
       search rules,
     )

@@ -17,6 +17,15 @@ returns-then-a-b c = sym (same-short _ _ c.if-a-b.true)
 pub loop-i-init : goal.loop-i-init
 loop-i-init c = (flag-start _, search rules, search rules)
 
-
 pub returns : goal.returns
 returns c = flag-end _ _ _ c.loop-i.invariant.0 (same_none _ _ _ c.loop-i-test.false (search rules))
+
+pub loop-i-preserved : goal.loop-i-preserved
+loop-i-preserved c = (
+  elim c.if-a-i.branch [
+    | then-a-i w ↦ rw (w.equal-is, and-false) (flag_off _ _ _ c.loop-i.invariant.0 (same_not _ _ _ c.loop-i-test.true (search rules) w.if-a-i.true))
+    | else-a-i w ↦ rw w.equal-is (flag-on _ _ _ c.loop-i.invariant.0 _ (same-on _ _ _ c.loop-i-test.true (search rules) w.if-a-i.false))
+  ],
+  search rules,
+  search rules,
+)

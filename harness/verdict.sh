@@ -25,7 +25,7 @@ mkdir -p target || exit 2
 # rt ci passes where a must-fail edit is bad, and says how many on its line rt: ok: "must-fail edits: N refused, M bad"
 said=$(grep '^rt: ok' "$log") || fail "rt ci has no line rt: ok"
 bad=$(printf '%s\n' "$said" | grep -oE ', [1-9][0-9]* bad' | cut -c 3-)
-[ -z "$bad" ] || fail "of the must-fail edits $bad"
+[ -z "$bad" ] || fail "must-fail edits: $bad"
 tally=$(grep -E '^[0-9]+ passed, 0 failed$' "$log" | tail -n 1)
 [ -n "$tally" ] || fail "rt ci has no tally with 0 failed"
 

@@ -1,4 +1,5 @@
 -- `put_number` meets its contract: a number below 0 is a minus and the digits of its complement and 1.
+use Rattle.decimals.specs.Number.{decimal}
 use native.Mathlib.Omega.{arith}
 use borrow.Author.Rules.{rules}
 use Rattle.output.proofs.Pour.{then}
@@ -21,4 +22,8 @@ overflow_cast-v-2 c = let k = below c in rw k.held (tt, record { fits = omega ar
 
 pub overflow_add-v : goal.overflow_add-v
 overflow_add-v c = let k = below c in rw k.held (record { fits = omega arith })
+
+pub returns-then-v-ge0 : goal.returns-then-v-ge0
+unfolding decimal
+returns-then-v-ge0 c = search rules
 

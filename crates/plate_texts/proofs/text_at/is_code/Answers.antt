@@ -1,5 +1,4 @@
 -- `is_code` meets its contract.
-use borrow.Author.Rules.{rules}
 use Rattle.plate_texts.proofs.TextsRead.{unused-code}
 use Rattle.plate_texts.proofs.text_at.is_code.Goals as goal
 

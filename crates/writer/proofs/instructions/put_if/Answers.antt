@@ -1,7 +1,6 @@
 -- `put_if` meets its contract: the test's fields and the skip.
 use mir.Syntax.{w32}
 use mir.Facts.{to_z-of_z}
-use borrow.Author.Rules.{rules}
 use Rattle.writer.proofs.instructions.put_if.Goals as goal
 
 pub returns : goal.returns

@@ -32,7 +32,7 @@ unfolding headed
 returns-in-3 c = record { result_value = λ ph behind w. let there : got c.part_ahead.result (place_at c.args.plate.now (c.args.at + 3)) ≡ number 3 (place_at c.args.plate.now c.args.at) = part-read _ _ c.read_ahead-ahead.ensures 0 3 (omega arith) c.part_ahead.ensures.0 _ _ (omega arith) (omega arith) (code-known _ _ _ _ w) in by_code _ _ _ _ w 3 there (fields-code _ _ _ 3 c.in-3.is) (λ k. refl); head_fits = search rules }
 
 pub returns-in-4 : goal.returns-in-4
-unfolding headed
+unfolding headed return
 returns-in-4 c = record { result_value = λ ph behind w. let there : got c.part_ahead.result (place_at c.args.plate.now (c.args.at + 3)) ≡ number 3 (place_at c.args.plate.now c.args.at) = part-read _ _ c.read_ahead-ahead.ensures 0 3 (omega arith) c.part_ahead.ensures.0 _ _ (omega arith) (omega arith) (code-known _ _ _ _ w) in by_code _ _ _ _ w 4 there (fields-code _ _ _ 4 c.in-4.is) (λ k. let s : number 9 (place_at c.args.plate.now (c.args.at + 3)) ≡ skip behind (place_at c.args.plate.now (c.args.at + 3)) = skip_read behind c.args.plate.now (c.args.at + 3) (known-first _ _ _ k) in then-got _ _ _ (part-read _ _ c.read_ahead-ahead.ensures 3 9 (omega arith) c.part_ahead-in-4.ensures.0 (c.args.at + 3) (c.args.at + 12) refl (omega arith) (known_same s (known-first _ _ _ k)) ∙ s)); head_fits = part-below 3 9 _ c.part_ahead-in-4.ensures.0 }
 
 pub returns-in_default : goal.returns-in_default

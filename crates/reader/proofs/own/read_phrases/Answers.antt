@@ -18,17 +18,6 @@ use borrow.Author.Rules.{rules}
 use native.Mathlib.Omega.{arith}
 use Rattle.reader.proofs.own.read_phrases.Goals as goal
 
--- the line that is written
-line : (c : goal.After-put_phrase-end) →
-    let a = c.args in
-    (own' : List ℕ) → (c.put_phrase-end.result, own') ≡ poured c.loop-k.end (phrase_line (values_of (until_etx 7 (place_at a.plate.now c.loop-k.bit)))) c.loop-k.own
-    → Line own' c.loop-k.end c.put_phrase-end.result
-line c own' w =
-    let c.loop-k = c.loop-k in
-    let e = size-got 7 _ _ _ c.read_spelled-field.ensures c.in-Is.is in
-    let text = sym (ap (λ m. poured c.loop-k.end (phrase_line (values_of m)) c.loop-k.own) (phrase-characters _ _ _ _ e)) in
-    line-more c.loop-k.invariant.0 c.loop-k-test.true c.requires.3 c.requires.4 _ _ _ _ (omega arith) e (w ∙ text)
-
 pub loop-k-init : goal.loop-k-init
 loop-k-init c = (entered-start _ _ _ _ _ _ c.requires.1, search rules)
 
@@ -53,27 +42,37 @@ put_phrase-end-requires c = let e = size-got 7 _ _ _ c.read_spelled-field.ensure
 
 pub overflow_sub-end : goal.overflow_sub-end
 overflow_sub-end c =
-    let m = line c<After-put_phrase> _ c.put_phrase-end.ensures in
+    let e = size-got 7 _ _ _ c.read_spelled-field.ensures c.in-Is.is in
+    let w = c.put_phrase-end.ensures ∙ sym (ap (λ m. poured c.loop-k.end (phrase_line (values_of m)) c.loop-k.own) (phrase-characters _ _ _ _ e)) in
+    let m : Line c.put_phrase-end.new.own c.loop-k.end c.put_phrase-end.result = line-more c.loop-k.invariant.0 c.loop-k-test.true c.requires.3 c.requires.4 _ _ _ _ (omega arith) e w in
     omega arith
 
 pub slice_bounds-enter_own-count : goal.slice_bounds-enter_own-count
 slice_bounds-enter_own-count c =
-    let m = line c<After-put_phrase> _ c.put_phrase-end.ensures in
+    let e = size-got 7 _ _ _ c.read_spelled-field.ensures c.in-Is.is in
+    let w = c.put_phrase-end.ensures ∙ sym (ap (λ m. poured c.loop-k.end (phrase_line (values_of m)) c.loop-k.own) (phrase-characters _ _ _ _ e)) in
+    let m : Line c.put_phrase-end.new.own c.loop-k.end c.put_phrase-end.result = line-more c.loop-k.invariant.0 c.loop-k-test.true c.requires.3 c.requires.4 _ _ _ _ (omega arith) e w in
     omega arith
 
 pub slice_bounds-enter_own-start : goal.slice_bounds-enter_own-start
 slice_bounds-enter_own-start c =
-    let m = line c<After-put_phrase-arg> _ c.put_phrase-end.ensures in
+    let e = size-got 7 _ _ _ c.read_spelled-field.ensures c.in-Is.is in
+    let w = c.put_phrase-end.ensures ∙ sym (ap (λ m. poured c.loop-k.end (phrase_line (values_of m)) c.loop-k.own) (phrase-characters _ _ _ _ e)) in
+    let m : Line c.put_phrase-end.new.own c.loop-k.end c.put_phrase-end.result = line-more c.loop-k.invariant.0 c.loop-k-test.true c.requires.3 c.requires.4 _ _ _ _ (omega arith) e w in
     omega arith
 
 pub slice_bounds-enter_own-end : goal.slice_bounds-enter_own-end
 slice_bounds-enter_own-end c =
-    let m = line c<After-put_phrase-arg> _ c.put_phrase-end.ensures in
+    let e = size-got 7 _ _ _ c.read_spelled-field.ensures c.in-Is.is in
+    let w = c.put_phrase-end.ensures ∙ sym (ap (λ m. poured c.loop-k.end (phrase_line (values_of m)) c.loop-k.own) (phrase-characters _ _ _ _ e)) in
+    let m : Line c.put_phrase-end.new.own c.loop-k.end c.put_phrase-end.result = line-more c.loop-k.invariant.0 c.loop-k-test.true c.requires.3 c.requires.4 _ _ _ _ (omega arith) e w in
     omega arith
 
 pub enter_own-requires : goal.enter_own-requires
 enter_own-requires c =
-    let m = line c<After-put_phrase-arg> _ c.put_phrase-end.ensures in
+    let e = size-got 7 _ _ _ c.read_spelled-field.ensures c.in-Is.is in
+    let w = c.put_phrase-end.ensures ∙ sym (ap (λ m. poured c.loop-k.end (phrase_line (values_of m)) c.loop-k.own) (phrase-characters _ _ _ _ e)) in
+    let m : Line c.put_phrase-end.new.own c.loop-k.end c.put_phrase-end.result = line-more c.loop-k.invariant.0 c.loop-k-test.true c.requires.3 c.requires.4 _ _ _ _ (omega arith) e w in
     (omega (arith, indexed-count _ _ c.loop-k.invariant.0.indexed, c.requires.2, c.loop-k.invariant.0.size), omega arith, omega (arith, ap length m.part))
 
 pub loop-k-preserved : goal.loop-k-preserved

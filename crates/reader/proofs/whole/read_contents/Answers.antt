@@ -12,11 +12,11 @@ pub returns-then-plate-gt-PLATE_BYTES : goal.returns-then-plate-gt-PLATE_BYTES
 returns-then-plate-gt-PLATE_BYTES c = record { result_after = plate-long _ _ c.if-plate-gt-PLATE_BYTES.true; stands = none-stands; own_after = own-unread _ _ _ c.if-plate-gt-PLATE_BYTES.true; own_kept = kept-none _ _ }
 
 pub returns-in_default : goal.returns-in_default
-returns-in_default c = record { result_after = own-refused _ _ (search rules) (own-texts-stopped _ _ _ c.read_own-first.ensures.result_after c.in_default.is c.refusal.ensures); stands = none-stands; own_after = own-of-plate _ _ _ _ c.read_own-first.ensures.own_there.1.0 (search rules); own_kept = c.read_own-first.ensures.own_there.1.1 }
+returns-in_default c = record { result_after = own-refused _ _ (search rules) (own-texts-stopped _ _ _ c.read_own-first.ensures.result_after c.in_default.is c.refusal.ensures); stands = none-stands; own_after = own-of-plate _ _ _ _ c.read_own-first.ensures.own_after (search rules); own_kept = c.read_own-first.ensures.own_kept }
 
 pub read_rest-requires : goal.read_rest-requires
-read_rest-requires c = let there = subst (OwnThere _ _ _) c.in-Is.is c.read_own-first.ensures.own_there.0 in
+read_rest-requires c = let there = subst (OwnThere _ _ _) c.in-Is.is c.read_own-first.ensures.own_there in
     record { short = search rules; listed = there }
 
 pub returns : goal.returns
-returns c = record { result_after = c.read_rest.ensures.result_value ∙ own-got _ _ (search rules) _ _ (own-texts-got _ _ _ c.read_own-first.ensures.result_after c.in-Is.is); stands = c.read_rest.ensures.stands; own_after = own-of-plate _ _ _ _ c.read_own-first.ensures.own_there.1.0 (search rules); own_kept = c.read_own-first.ensures.own_there.1.1 }
+returns c = record { result_after = c.read_rest.ensures.result_value ∙ own-got _ _ (search rules) _ _ (own-texts-got _ _ _ c.read_own-first.ensures.result_after c.in-Is.is); stands = c.read_rest.ensures.stands; own_after = own-of-plate _ _ _ _ c.read_own-first.ensures.own_after (search rules); own_kept = c.read_own-first.ensures.own_kept }

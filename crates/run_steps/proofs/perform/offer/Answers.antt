@@ -32,3 +32,7 @@ pub loop-end-smaller : goal.loop-end-smaller
 loop-end-smaller c = omega (arith, c.loop-end.invariant.0)
 
 
+
+pub returns-else-t-clause-steps_bound : goal.returns-else-t-clause-steps_bound
+unfolding headed performed laid left_by machine_state over_by place_at
+returns-else-t-clause-steps_bound c = search rules

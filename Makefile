@@ -10,6 +10,8 @@ SEED = 1
 
 LIBRARY = target/library
 ARCHIVE = $(LIBRARY)/libdoorplate.a
+BIN = target/bin
+TOOLS = guidewalk platerun platelist listplate
 HARNESS = --release --offline --quiet --manifest-path harness/Cargo.toml
 C_FLAGS = -std=c99 -O2 -Wall -Wextra -Wpedantic -Werror
 
@@ -17,12 +19,18 @@ test:
 	cargo test --release --offline --quiet --manifest-path model/Cargo.toml
 	harness/verdict.sh
 
+# `rt run` proves a program, builds it as out/NAME in its crate's folder, and runs it.
 show:
-	rt check plateshow
-	target/bin/plateshow < $(GUIDE)
+	cd crates/plateshow && rt run < $(abspath $(GUIDE))
+	mkdir -p $(BIN)
+	cp crates/plateshow/out/plateshow $(BIN)
 
+# With no arguments a tool only tells how it is called.
 tools:
-	rt check guidewalk platerun platelist listplate
+	mkdir -p $(BIN)
+	for tool in $(TOOLS); do \
+	    (cd crates/$$tool && rt run < /dev/null) && cp crates/$$tool/out/$$tool $(BIN) || exit 1; \
+	done
 
 tools-test: tools
 	sh tests/tools.sh
@@ -30,11 +38,12 @@ tools-test: tools
 names:
 	sh tests/names.sh
 
+# Crate doorplate_c exports the calls of crate doorplate. Its archive keeps the name that C callers link.
 library:
-	rt check doorplate
-	rt staticlib doorplate
+	cd crates/doorplate_c && rt lib
 	mkdir -p $(LIBRARY)
-	cp target/staticlib/libdoorplate.a include/doorplate.h $(LIBRARY)
+	cp crates/doorplate_c/out/libdoorplate_c.a $(ARCHIVE)
+	cp include/doorplate.h $(LIBRARY)
 
 $(ARCHIVE): crates.txt include/doorplate.h $(wildcard crates/*/src/*.rt)
 	$(MAKE) library

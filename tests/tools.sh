@@ -34,7 +34,7 @@ answered() {
 }
 
 for tool in guidewalk platerun platelist listplate; do
-    [ -x "target/bin/$tool" ] || fail "there is no target/bin/$tool: rt check $tool makes it"
+    [ -x "target/bin/$tool" ] || fail "there is no target/bin/$tool: make tools makes it"
     stored=tests/tools/$tool.runs
     replay "$stored" >"$room/now"
     cmp -s "$room/now" "$stored" || fail "$stored: $(diff "$room/now" "$stored" | grep -c '^[<>]') lines differ from what is written now"

@@ -18,7 +18,7 @@ LEMMAS = [
 ]
 
 WORD = re.compile(r"(?<![\w'])[a-z][a-z0-9]*[A-Z][\w']*")
-QUOTED = re.compile(r"b?\"(?:[^\"\\]|\\.)*\"")
+QUOTED = re.compile(r"b?\"(?:[^\"\\\n]|\\.)*\"")
 
 
 def snake(word):
@@ -29,7 +29,7 @@ def turn(text):
     return WORD.sub(lambda m: snake(m.group(0)), text)
 
 
-def turn_rust(text):
+def turn_unquoted(text):
     parts, at = [], 0
     for m in QUOTED.finditer(text):
         parts += [turn(text[at:m.start()]), m.group(0)]
@@ -48,7 +48,7 @@ def main():
         if not path.endswith((".rt", ".antt")) or "/out/" in path:
             continue
         old = open(path, encoding="utf-8").read()
-        new = turn(old) if path.endswith(".antt") else turn_rust(old)
+        new = turn_unquoted(old)
         if new != old:
             open(path, "w", encoding="utf-8").write(new)
 

@@ -55,7 +55,7 @@ guides =
     ++ guide_refused (bytes "print,a\nelse,\n") [] 4 2
     ++ guide_refused (bytes "print,a\nfi \n") [] 4 2
     ++ guide_refused (bytes "print,a\ngoto,0\n") [] 4 2
-    ++ guide_refused (bytes "print,a\n_print,a\n") [] 4 2
+    ++ guide_refused (bytes "print,a\nPrint,a\n") [] 4 2
     -- 2 and 8 options; a text of 64 bytes
     ++ writes (translate_call (bytes "inputs,0,a,b,c\n") []) (hex "0024061060C40CC60C")
     ++ refuses (translate_call (bytes "inputs,0,a,b,c,d,e,f,g,h,i\n") []) 11 0

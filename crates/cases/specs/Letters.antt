@@ -163,8 +163,8 @@ lines =
 -- the book: letters in its phrases, which are written by 10 and their place
 abbrev pub books : List Row
 books =
-    both (utf8 "print,Łódź\n") (utf8 "a\n_são João\nŁódź\n") (plate "0 0000000001 010 10 10")
-    ++ plate_refused (lettered (utf8 "Łódź")) (utf8 "a\n_são João\nŁódź\n") 14 16
+    both (utf8 "print,Łódź\n") (utf8 "a\nSão João\nŁódź\n") (plate "0 0000000001 010 10 10")
+    ++ plate_refused (lettered (utf8 "Łódź")) (utf8 "a\nSão João\nŁódź\n") 14 16
     ++ book_refused (utf8 "é\nè\né\n") 3
     -- no normal forms: U+00E9 and U+0065 U+0301 are two texts
     ++ both (printed (hex "65CC81")) (hex "C3A90A65CC810A") (plate "0 0000000001 010 10 1")
@@ -222,7 +222,7 @@ listing = utf8 "input,0,São João\nif,0,lt,100,2\nprintex,Łódź\ngoto,1\nprin
 
 -- a book that has two of its names, and the plate with that book: n, input, if, printex, goto, print, print
 abbrev pub book : List ℕ
-book = utf8 "Ōtorohanga\n_são João\n"
+book = utf8 "Ōtorohanga\nSão João\n"
 
 abbrev pub phrased : List ℕ
 phrased =
@@ -240,12 +240,12 @@ whole =
     ++ both listing [] (hex "00C00A9E1D1B7902537E1D1B781D020019004DC581C3B364C5BA038014E2C63A37B937B430B733B081A37EB060")
     ++ writes (translate_call guide book) phrased
     ++ both listing book phrased
-    ++ meets guide (pos 90 ∷ []) (utf8 "Q,São João\n_a,90\n_v,Łódź\n") 0 1 3
-    ++ meets guide (pos 100 ∷ []) (utf8 "Q,São João\n_a,100\n_s,Ōtorohanga\n_s,ok\n") 1 1 4
+    ++ meets guide (pos 90 ∷ []) (utf8 "Q,São João\nA,90\nV,Łódź\n") 0 1 3
+    ++ meets guide (pos 100 ∷ []) (utf8 "Q,São João\nA,100\nS,Ōtorohanga\nS,ok\n") 1 1 4
     ++ meets guide [] (utf8 "Q,São João\n") 2 0 1
-    ++ ends (walk_call guide book (pos 90 ∷ [])) (utf8 "Q,São João\n_a,90\n_v,Łódź\n") 0 1 3
-    ++ ends (run_call phrased book (pos 90 ∷ []) scratch_numbers) (utf8 "Q,São João\n_a,90\n_v,Łódź\n") 0 1 3
-    ++ ends (run_call phrased book (pos 100 ∷ []) scratch_numbers) (utf8 "Q,São João\n_a,100\n_s,Ōtorohanga\n_s,ok\n") 1 1 4
+    ++ ends (walk_call guide book (pos 90 ∷ [])) (utf8 "Q,São João\nA,90\nV,Łódź\n") 0 1 3
+    ++ ends (run_call phrased book (pos 90 ∷ []) scratch_numbers) (utf8 "Q,São João\nA,90\nV,Łódź\n") 0 1 3
+    ++ ends (run_call phrased book (pos 100 ∷ []) scratch_numbers) (utf8 "Q,São João\nA,100\nS,Ōtorohanga\nS,ok\n") 1 1 4
 
 abbrev pub letters : List Row
 letters = encodings ++ sequences ++ sizes ++ lines ++ books ++ codes ++ whole

@@ -13,7 +13,7 @@ shows op constant answer written shown steps =
     meets
     (bytes "input,5,R\nif,5," ++ op ++ bytes "," ++ constant ++ bytes "\nprint,yes\nelse\nprint,no\nfi\n")
     (answer ∷ [])
-    (bytes "Q,R\n_a," ++ written ++ bytes "\n_s," ++ shown ++ bytes "\n")
+    (bytes "Q,R\nA," ++ written ++ bytes "\nS," ++ shown ++ bytes "\n")
     1
     1
     steps
@@ -83,21 +83,21 @@ colour = bytes "inputs,3,Col,red,blue\n"
 
 abbrev pub wrong_choices : List Row
 wrong_choices =
-    tries colour (pos 5 ∷ []) (bytes "C,Col,red,blue\n_a,5\n_c,Col,red,blue\n") 2 1 2 1
-    ++ tries colour (pos 5 ∷ pos 6 ∷ []) (bytes "C,Col,red,blue\n_a,5\n_c,Col,red,blue\n_a,6\n_c,Col,red,blue\n") 2 2 3 2
-    ++ tries colour (pos 5 ∷ pos 6 ∷ pos 7 ∷ []) (bytes "C,Col,red,blue\n_a,5\n_c,Col,red,blue\n_a,6\n_c,Col,red,blue\n") 3 2 3 3
-    ++ tries colour (pos 5 ∷ pos 6 ∷ pos 7 ∷ pos 1 ∷ []) (bytes "C,Col,red,blue\n_a,5\n_c,Col,red,blue\n_a,6\n_c,Col,red,blue\n") 3 2 3 3
+    tries colour (pos 5 ∷ []) (bytes "C,Col,red,blue\nA,5\nC,Col,red,blue\n") 2 1 2 1
+    ++ tries colour (pos 5 ∷ pos 6 ∷ []) (bytes "C,Col,red,blue\nA,5\nC,Col,red,blue\nA,6\nC,Col,red,blue\n") 2 2 3 2
+    ++ tries colour (pos 5 ∷ pos 6 ∷ pos 7 ∷ []) (bytes "C,Col,red,blue\nA,5\nC,Col,red,blue\nA,6\nC,Col,red,blue\n") 3 2 3 3
+    ++ tries colour (pos 5 ∷ pos 6 ∷ pos 7 ∷ pos 1 ∷ []) (bytes "C,Col,red,blue\nA,5\nC,Col,red,blue\nA,6\nC,Col,red,blue\n") 3 2 3 3
     ++ meets
     colour
     (pos 5 ∷ pos 6 ∷ pos 1 ∷ [])
-    (bytes "C,Col,red,blue\n_a,5\n_c,Col,red,blue\n_a,6\n_c,Col,red,blue\n_a,1\n")
+    (bytes "C,Col,red,blue\nA,5\nC,Col,red,blue\nA,6\nC,Col,red,blue\nA,1\n")
     1
     3
     3
     ++ tries
     (bytes "inputs,0,p,a,b\ninputs,0,q,c,d\n")
     (pos 5 ∷ pos 0 ∷ pos 6 ∷ [])
-    (bytes "C,p,a,b\n_a,5\n_c,p,a,b\n_a,0\n_c,q,c,d\n_a,6\n_c,q,c,d\n")
+    (bytes "C,p,a,b\nA,5\nC,p,a,b\nA,0\nC,q,c,d\nA,6\nC,q,c,d\n")
     2
     3
     4
@@ -105,7 +105,7 @@ wrong_choices =
     ++ meets
     (bytes "inputs,0,p,a,b\ninput,1,q\n")
     (pos 5 ∷ pos 0 ∷ [])
-    (bytes "C,p,a,b\n_a,5\n_c,p,a,b\n_a,0\n_q,q\n")
+    (bytes "C,p,a,b\nA,5\nC,p,a,b\nA,0\nQ,q\n")
     2
     2
     3
@@ -114,22 +114,22 @@ abbrev pub machine : List Row
 machine =
     operators
     -- a C line; the first option, the last, one past it, one below 0, no answer; of 8 options the last and one past it
-    ++ meets choice (pos 0 ∷ []) (bytes "C,Lamp,on,off\n_a,0\n") 1 1 2
-    ++ meets choice (pos 1 ∷ []) (bytes "C,Lamp,on,off\n_a,1\n_v,Dark\n") 0 1 3
-    ++ tries choice (pos 2 ∷ []) (bytes "C,Lamp,on,off\n_a,2\n_c,Lamp,on,off\n") 2 1 2 1
-    ++ tries choice (negsuc 0 ∷ []) (bytes "C,Lamp,on,off\n_a,-1\n_c,Lamp,on,off\n") 2 1 2 1
+    ++ meets choice (pos 0 ∷ []) (bytes "C,Lamp,on,off\nA,0\n") 1 1 2
+    ++ meets choice (pos 1 ∷ []) (bytes "C,Lamp,on,off\nA,1\nV,Dark\n") 0 1 3
+    ++ tries choice (pos 2 ∷ []) (bytes "C,Lamp,on,off\nA,2\nC,Lamp,on,off\n") 2 1 2 1
+    ++ tries choice (negsuc 0 ∷ []) (bytes "C,Lamp,on,off\nA,-1\nC,Lamp,on,off\n") 2 1 2 1
     ++ meets choice [] (bytes "C,Lamp,on,off\n") 2 0 1
     ++ meets
     (bytes "inputs,0,q,a,b,c,d,e,f,g,h\n")
     (pos 7 ∷ [])
-    (bytes "C,q,a,b,c,d,e,f,g,h\n_a,7\n")
+    (bytes "C,q,a,b,c,d,e,f,g,h\nA,7\n")
     1
     1
     1
     ++ tries
     (bytes "inputs,0,q,a,b,c,d,e,f,g,h\n")
     (pos 8 ∷ [])
-    (bytes "C,q,a,b,c,d,e,f,g,h\n_a,8\n_c,q,a,b,c,d,e,f,g,h\n")
+    (bytes "C,q,a,b,c,d,e,f,g,h\nA,8\nC,q,a,b,c,d,e,f,g,h\n")
     2
     1
     2
@@ -141,32 +141,32 @@ machine =
     ++ meets
     (bytes "input,3,a\ninput,4,b\nif,3,eq,1\nif,4,eq,2\nif,5,eq,0\nprint,ok\nfi\nfi\nfi\n")
     (pos 1 ∷ pos 2 ∷ pos 9 ∷ [])
-    (bytes "Q,a\n_a,1\n_q,b\n_a,2\n_s,ok\n")
+    (bytes "Q,a\nA,1\nQ,b\nA,2\nS,ok\n")
     1
     2
     6
     -- leaving two true blocks with an else line, at their ends, is two steps; a verdict, a wait or outcome 3 inside one is no such step
-    ++ meets nested (pos 6 ∷ []) (bytes "Q,N\n_a,6\n_s,big\n") 1 1 8
-    ++ meets nested (pos 3 ∷ []) (bytes "Q,N\n_a,3\n_v,three\n") 0 1 5
-    ++ meets nested (pos 4 ∷ []) (bytes "Q,N\n_a,4\n") 1 1 7
-    ++ meets nested (negsuc 0 ∷ []) (bytes "Q,N\n_a,-1\n_s,less\n") 1 1 5
+    ++ meets nested (pos 6 ∷ []) (bytes "Q,N\nA,6\nS,big\n") 1 1 8
+    ++ meets nested (pos 3 ∷ []) (bytes "Q,N\nA,3\nV,three\n") 0 1 5
+    ++ meets nested (pos 4 ∷ []) (bytes "Q,N\nA,4\n") 1 1 7
+    ++ meets nested (negsuc 0 ∷ []) (bytes "Q,N\nA,-1\nS,less\n") 1 1 5
     ++ meets (bytes "if,0,eq,0\nprintex,a\nelse\nprint,b\nfi\n") [] (bytes "V,a\n") 0 0 2
     ++ meets (bytes "if,0,eq,0\ninput,0,a\nelse\nprint,b\nfi\n") [] (bytes "Q,a\n") 2 0 2
     ++ tries
     (bytes "if,0,eq,0\ninputs,0,q,a,b\nelse\nprint,b\nfi\n")
     (pos 2 ∷ pos 2 ∷ pos 2 ∷ [])
-    (bytes "C,q,a,b\n_a,2\n_c,q,a,b\n_a,2\n_c,q,a,b\n")
+    (bytes "C,q,a,b\nA,2\nC,q,a,b\nA,2\nC,q,a,b\n")
     3
     2
     4
     3
     -- a buffer just long enough, and one byte less; scratch of 64 and of 63
-    ++ fits (walk_call choice [] (pos 0 ∷ [])) (bytes "C,Lamp,on,off\n_a,0\n") (ended 18 1 1 2 0)
+    ++ fits (walk_call choice [] (pos 0 ∷ [])) (bytes "C,Lamp,on,off\nA,0\n") (ended 18 1 1 2 0)
     ++ fits
     (run_call (bytes_made (translation [] choice)) [] (pos 0 ∷ []) scratch_numbers)
-    (bytes "C,Lamp,on,off\n_a,0\n")
+    (bytes "C,Lamp,on,off\nA,0\n")
     (ended 18 1 1 2 0)
-    ++ fits (walk_call colour [] (pos 5 ∷ [])) (bytes "C,Col,red,blue\n_a,5\n_c,Col,red,blue\n") (ended 34 2 1 2 1)
+    ++ fits (walk_call colour [] (pos 5 ∷ [])) (bytes "C,Col,red,blue\nA,5\nC,Col,red,blue\n") (ended 34 2 1 2 1)
     ++ refuses (run_call (bytes_made (translation [] choice)) [] (pos 0 ∷ []) scratch_numbers) 11 0
     ++ ((run_call (bytes_made (translation [] [])) [] [] 63 (untouched 4) gives (refusal 11 0, untouched 4)) ∷ [])
     ++ ((run_call (bytes_made (translation [] [])) [] [] 64 (untouched 4) gives (ended 0 1 0 0 0, untouched 4)) ∷ [])

@@ -58,15 +58,15 @@ paper =
     ++ writes (write_plate_call listing_b []) plate_b
     ++ ((bit_count listing_b counts 179) ∷ (length plate_b counts 23) ∷ [])
     -- (c), (d), (e)
-    ++ meets guide_b (pos 90 ∷ []) (bytes "Q,Volts\n_a,90\n_v,Fuse\n") 0 1 3
-    ++ meets guide_b (pos 100 ∷ []) (bytes "Q,Volts\n_a,100\n_s,OK\n") 1 1 3
+    ++ meets guide_b (pos 90 ∷ []) (bytes "Q,Volts\nA,90\nV,Fuse\n") 0 1 3
+    ++ meets guide_b (pos 100 ∷ []) (bytes "Q,Volts\nA,100\nS,OK\n") 1 1 3
     ++ meets guide_b [] (bytes "Q,Volts\n") 2 0 1
     -- (f)
     ++ writes
     (read_plate_call (bytes_made (translation [] guide_f)) [])
     (bytes "if,0,eq,0,2\nprint,a\ngoto,0\nprint,b\n")
     ++ ((instruction_count guide_f counts 4) ∷ [])
-    ++ meets guide_f [] (bytes "S,a\n_s,b\n") 1 0 4
+    ++ meets guide_f [] (bytes "S,a\nS,b\n") 1 0 4
     -- (g)
     ++ ((shown [] prints bytes "plate,0000\n") ∷ [])
     ++ writes (translate_call [] []) (hex "0000")

@@ -9,7 +9,7 @@ use Rattle.cases.specs.Row.{Row, plate, writes, ends}
 
 -- a book of two phrases, and a guide: two of its texts are in the book, two are not
 abbrev pub book : List ℕ
-book = bytes "Volts\n_fuse\n"
+book = bytes "Volts\nFuse\n"
 
 abbrev pub guide : List ℕ
 guide = bytes "input,0,Volts\nif,0,lt,100\nprint,a\nprintex,Fuse\nelse\nprint,ok\nfi\n"
@@ -48,8 +48,8 @@ runs =
     ++ writes (translate_call guide book) spelled
     ++ writes (write_plate_call listing book) phrased
     ++ writes (read_plate_call phrased book) listing
-    ++ alike (pos 90 ∷ []) (bytes "Q,Volts\n_a,90\n_s,a\n_v,Fuse\n") 0 1 4
-    ++ alike (pos 100 ∷ []) (bytes "Q,Volts\n_a,100\n_s,ok\n") 1 1 3
+    ++ alike (pos 90 ∷ []) (bytes "Q,Volts\nA,90\nS,a\nV,Fuse\n") 0 1 4
+    ++ alike (pos 100 ∷ []) (bytes "Q,Volts\nA,100\nS,ok\n") 1 1 3
     ++ alike [] (bytes "Q,Volts\n") 2 0 1
     -- a run: goto and a failing if go to i + 1 + skip; what is passed over is no step; a last goto with skip 0 is one
     ++ ends

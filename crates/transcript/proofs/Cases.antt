@@ -63,7 +63,7 @@ pub letters :
     ∷ shown (bytes "T")
     ∷ ruled (bytes "T")
     ∷ [])
-    ≡ bytes "Q,T\n_c,T,a,b\n_a,90\n_a,-7\n_s,T\n_v,T\n"
+    ≡ bytes "Q,T\nC,T,a,b\nA,90\nA,-7\nS,T\nV,T\n"
 unfolding transcript_bytes line_bytes join decimal digits
 letters = refl
 

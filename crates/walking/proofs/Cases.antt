@@ -57,17 +57,17 @@ pub walks :
     ∷ reported colour (pos 5 ∷ pos 6 ∷ pos 7 ∷ [])
     ∷ reported colour (pos 5 ∷ pos 6 ∷ pos 1 ∷ [])
     ∷ []
-    ≡ record { bytes = bytes "Q,Volts\n_a,90\n_v,Fuse\n"; answer = ended 20 0 1 3 0 }
-    ∷ record { bytes = bytes "Q,Volts\n_a,100\n_s,OK\n"; answer = ended 19 1 1 3 0 }
+    ≡ record { bytes = bytes "Q,Volts\nA,90\nV,Fuse\n"; answer = ended 20 0 1 3 0 }
+    ∷ record { bytes = bytes "Q,Volts\nA,100\nS,OK\n"; answer = ended 19 1 1 3 0 }
     ∷ record { bytes = bytes "Q,Volts\n"; answer = ended 8 2 0 1 0 }
-    ∷ record { bytes = bytes "S,a\n_s,b\n"; answer = ended 8 1 0 4 0 }
+    ∷ record { bytes = bytes "S,a\nS,b\n"; answer = ended 8 1 0 4 0 }
     ∷ record { bytes = bytes "S,a\n"; answer = ended 4 1 0 6 0 }
-    ∷ record { bytes = bytes "Q,q\n_a,-1\n_s,c\n_s,d\n"; answer = ended 17 1 1 5 0 }
+    ∷ record { bytes = bytes "Q,q\nA,-1\nS,c\nS,d\n"; answer = ended 17 1 1 5 0 }
     ∷ record { bytes = []; answer = ended 0 1 0 0 0 }
-    ∷ record { bytes = bytes "C,Col,red,blue\n_a,5\n_c,Col,red,blue\n"; answer = ended 34 2 1 2 1 }
-    ∷ record { bytes = bytes "C,Col,red,blue\n_a,5\n_c,Col,red,blue\n_a,6\n_c,Col,red,blue\n"; answer = ended 53 2 2 3 2 }
-    ∷ record { bytes = bytes "C,Col,red,blue\n_a,5\n_c,Col,red,blue\n_a,6\n_c,Col,red,blue\n"; answer = ended 53 3 2 3 3 }
-    ∷ record { bytes = bytes "C,Col,red,blue\n_a,5\n_c,Col,red,blue\n_a,6\n_c,Col,red,blue\n_a,1\n"; answer = ended 57 1 3 3 0 }
+    ∷ record { bytes = bytes "C,Col,red,blue\nA,5\nC,Col,red,blue\n"; answer = ended 34 2 1 2 1 }
+    ∷ record { bytes = bytes "C,Col,red,blue\nA,5\nC,Col,red,blue\nA,6\nC,Col,red,blue\n"; answer = ended 53 2 2 3 2 }
+    ∷ record { bytes = bytes "C,Col,red,blue\nA,5\nC,Col,red,blue\nA,6\nC,Col,red,blue\n"; answer = ended 53 3 2 3 3 }
+    ∷ record { bytes = bytes "C,Col,red,blue\nA,5\nC,Col,red,blue\nA,6\nC,Col,red,blue\nA,1\n"; answer = ended 57 1 3 3 0 }
     ∷ []
 unfolding walk perform choose holds report start transcript_bytes line_bytes join decimal digits
 walks = refl

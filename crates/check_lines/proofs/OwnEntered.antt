@@ -3,17 +3,10 @@ use Prim.Native.Nat.{ℕ, ◌+◌, ◌-◌}
 use mathlib.Core.Path.{◌≡◌, refl, ap}
 use mathlib.Core.List.{List, [], ◌∷◌}
 use lib.ListN.{take, drop, get_or, set}
-use types.Run.{OneOf, miss}
-use denote.Enum.Declared.{tag_of}
 use Rattle.phrases.specs.Own.{own_number}
 use Rattle.lines.specs.declared.Head.{Head}
 use Rattle.lines.specs.declared.Head.TheVariants as head
-use Rattle.lines.specs.contracts.Head.{the_type}
 use Rattle.check_lines.specs.Numbers.{entered}
-
--- the heads of other lines than phrases, by their place in the enum
-abbrev others : List ℕ
-others = 1 ∷ 2 ∷ 3 ∷ 4 ∷ 5 ∷ 6 ∷ 7 ∷ 8 ∷ 9 ∷ 10 ∷ []
 
 module _ (k a e : ℕ) (text index : List ℕ) where
   pub entered-phrase : {h : Head} → h ≡ head.Phrase
@@ -21,9 +14,9 @@ module _ (k a e : ℕ) (text index : List ℕ) where
   unfolding entered
   entered-phrase o = ap (λ h. entered h k a e text index) o
 
-  pub entered-other : (h : Head) → OneOf others (tag_of the_type h) → entered h k a e text index ≡ index
+  pub entered-other : (h : Head) → (h ≡ head.Phrase → ⊥) → entered h k a e text index ≡ index
   unfolding entered
-  entered-other head.Phrase o = absurd (miss others 0 tt o)
+  entered-other head.Phrase o = absurd (o refl)
   entered-other (head.Input r) o = refl
   entered-other (head.Inputs r n) o = refl
   entered-other head.Print o = refl

@@ -6,8 +6,7 @@ use mathlib.Core.Bool.{Bool, true, false, cond, ◌&&◌, false≢true}
 use native.Mathlib.Omega.{arith}
 use lib.IntN.{ℤ}
 use mathlib.Core.Option.{Option, none, some, none-ne-some}
-use types.Run.{OneOf, miss}
-use denote.Enum.Declared.{tag_of}
+use Rattle.causes.specs.declared.Cause.{Cause}
 use Rattle.causes.specs.declared.Cause.TheVariants.{Byte}
 use Rattle.text.specs.Quoted.{bytes}
 use Rattle.text.specs.Parts.{split, comma, same, all}
@@ -28,7 +27,6 @@ use Rattle.lines.specs.declared.Head.TheVariants as head
 use Rattle.lines.specs.Line.{Line, phrase, says, if_line, else_line, fi_line, goto_line, if_skip_line, faulty, operator, fields_line, line_of}
 use Rattle.lines.specs.Answers.{head_of}
 use Rattle.lines.specs.Clean.{is_clean}
-use Rattle.lines.specs.contracts.Head.{the_type}
 use Rattle.lines.proofs.FieldsRead.{ReadAs, as-fault, as-phrase, as-input, as-inputs, as-print, as-printex}
 use Rattle.lines.proofs.FieldsRead.{as-if, as-else, as-fi, as-goto, as-if-skip, fields-read-as}
 
@@ -107,14 +105,11 @@ module _ (form : Form) (s : List ℕ) where
       go true = refl
       go false = refl
 
--- the heads of lines that are no fault, by their place in the enum
-abbrev clean : List ℕ
-clean = 0 ∷ 1 ∷ 2 ∷ 3 ∷ 4 ∷ 5 ∷ 6 ∷ 7 ∷ 8 ∷ 9 ∷ []
-
-pub head-clean : (l : Line) {h : Head} → h ≡ head_of l → OneOf clean (tag_of the_type h) → is_clean l ≡ true
-head-clean l e k = go l (subst (λ h. OneOf clean (tag_of the_type h)) e k)
+-- a head that is no fault is that of a line that is none
+pub head-clean : (l : Line) {h : Head} → h ≡ head_of l → ((c : Cause) → h ≡ head.Faulty c → ⊥) → is_clean l ≡ true
+head-clean l e k = go l (subst (λ h. (c : Cause) → h ≡ head.Faulty c → ⊥) e k)
   where
-    go : (l : Line) → OneOf clean (tag_of the_type (head_of l)) → is_clean l ≡ true
+    go : (l : Line) → ((c : Cause) → head_of l ≡ head.Faulty c → ⊥) → is_clean l ≡ true
     go (phrase t) k = refl
     go (says x) k = refl
     go (if_line t) k = refl
@@ -122,4 +117,4 @@ head-clean l e k = go l (subst (λ h. OneOf clean (tag_of the_type h)) e k)
     go fi_line k = refl
     go (goto_line j) k = refl
     go (if_skip_line t j) k = refl
-    go (faulty c) k = absurd (miss clean 10 tt k)
+    go (faulty c) k = absurd (k c refl)

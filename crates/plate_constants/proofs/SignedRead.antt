@@ -21,7 +21,7 @@ use Rattle.plate.proofs.Constants.{signed_number, signed-small}
 -- a number of w bits, up to 32, as an i32
 module _ (w : ℕ) (halves : 2 ^ w ≡ 2 ^ (w - 1) + 2 ^ (w - 1)) (small : 2 ^ (w - 1) ≤ 2147483648) where
   pub held : (v : ℕ) (z : ℤ) → v < 2 ^ w → z ≡ signed w v → to_z w32 (of_z w32 z) ≡ signed w v
-  held v z h e = rw e (to_z-of_z (record { sfits = omega (arith, signed-small w halves v h) }))
+  held v z h e = rw e (to_z-of_z {w = w32} {z = signed w v} (record { sfits = omega (arith, signed-small w halves v h) }))
 
   pub signed-got : (p q : Place) (v : ℕ) (z : ℤ) → v < 2 ^ w → got v q ≡ number w p → z ≡ signed w v
       → got (to_z w32 (of_z w32 z)) q ≡ signed_number w p

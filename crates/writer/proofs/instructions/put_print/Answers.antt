@@ -1,0 +1,9 @@
+-- `put_print` meets its contract: the text goes to the line's end.
+use borrow.Author.Rules.{rules}
+use Rattle.lines.proofs.FieldPlaces.{whole-rest}
+use Rattle.writer.proofs.instructions.put_print.Goals as goal
+
+pub returns : goal.returns
+returns c =
+    let a = c.args in
+    rw (whole-rest a.line.now a.a) at c.put_text.ensures

@@ -2,8 +2,5 @@
 use borrow.Author.Rules.{rules}
 use Rattle.vectors_phrases.proofs.text.Goals as goal
 
--- UNKNOWN slice-aggregate-put-labelled : tie.Need-slice-aggregate-put-labelled
--- UNKNOWN slice-aggregate-put-labelled c = search rules
-
 pub enter_lines-n-requires : goal.enter_lines-n-requires
 enter_lines-n-requires c = (c.check_book.ensures.by_index _ c.in-Holds.is, search rules)

@@ -2,13 +2,19 @@
 
 # ---- what there is
 
-# NAME: DEP DEP ..; lower layers come first, so what each of them stands on is known
+# NAME: DEP DEP .., or NAME staticlib: DEP DEP ..; lower layers come first, so what each of them stands on is known
 kind == "crates" && /^[a-z]/ {
     name = $1
     sub(/:$/, "", name)
     below[name] = name
-    for (i = 2; i <= NF; i++)
-        below[name] = below[name] " " below[$i]
+    line = $0
+    sub(/#.*/, "", line)
+    if (!sub(/^[^:]*:/, "", line))
+        line = ""
+    n = split(line, word, " ")
+    for (i = 1; i <= n; i++)
+        if (word[i] in below)
+            below[name] = below[name] " " below[word[i]]
 }
 
 kind == "files" {
@@ -167,6 +173,12 @@ function known(crates, name,   crate, word, n, m, i, j) {
 function look_up(word, alone,   p, n, file, name) {
     if (word !~ /\.\.$/)
         sub(/[.:]+$/, "", word)
+    if (match(word, /^crates\/[a-z0-9_]+\/out(\/|$)/)) {
+        split(word, p, "/")
+        if (!(p[2] in below))
+            missing(word, "no such crate")
+        return
+    }
     if (word ~ /^\// || word ~ /^target\// || word ~ /:\/\// || word ~ /(^|\/)[A-Z]+(\/|$|\.[a-ln-z])/)
         return
     if (word ~ /^[a-z0-9_]+::[a-z0-9_]+$/)

@@ -5,9 +5,6 @@ use mathlib.Core.Path.{◌≡◌, refl, sym, ap, ◌∙◌, subst}
 use mathlib.Core.List.{List, [], ◌∷◌}
 use mathlib.Core.Bool.{Bool, true, false, false≢true}
 use lib.ListN.{length, drop, get_or}
-use types.Run.{OneOf, miss}
-use denote.Enum.Declared.{tag_of}
-use Rattle.lines.specs.contracts.Head.{the_type}
 use Rattle.text.specs.Parts.{split, comma}
 use Rattle.transcript.specs.declared.Test.{Test}
 use Rattle.transcript.specs.Statement.{Statement, input, inputs, print, printex}
@@ -105,21 +102,19 @@ if-line (faulty c) test e = absurd (false≢true (ap is_if e))
 
 -- ---- what the code's matches leave
 
-pub no-if : (h : Head) → OneOf (0 ∷ 1 ∷ 2 ∷ 3 ∷ 4 ∷ 6 ∷ 7 ∷ 8 ∷ 9 ∷ 10 ∷ []) (tag_of the_type h) → NoIf h
-no-if h k test e = miss (0 ∷ 1 ∷ 2 ∷ 3 ∷ 4 ∷ 6 ∷ 7 ∷ 8 ∷ 9 ∷ 10 ∷ []) 5 tt (rw e at k)
-
-pub is-printex : (h : Head) (fs : List (List ℕ)) → Says h fs → OneOf (0 ∷ 4 ∷ 5 ∷ 6 ∷ 7 ∷ 8 ∷ 9 ∷ 10 ∷ []) (tag_of the_type h) → h ≡ head.Printex
-is-printex head.Printex fs v k = refl
-is-printex (head.Input r) fs v k = absurd (miss (0 ∷ 4 ∷ 5 ∷ 6 ∷ 7 ∷ 8 ∷ 9 ∷ 10 ∷ []) 1 tt k)
-is-printex (head.Inputs r n) fs v k = absurd (miss (0 ∷ 4 ∷ 5 ∷ 6 ∷ 7 ∷ 8 ∷ 9 ∷ 10 ∷ []) 2 tt k)
-is-printex head.Print fs v k = absurd (miss (0 ∷ 4 ∷ 5 ∷ 6 ∷ 7 ∷ 8 ∷ 9 ∷ 10 ∷ []) 3 tt k)
-is-printex head.Phrase fs v k = absurd v
-is-printex (head.If test) fs v k = absurd v
-is-printex head.Else fs v k = absurd v
-is-printex head.Fi fs v k = absurd v
-is-printex (head.Goto n) fs v k = absurd v
-is-printex (head.IfSkip test n) fs v k = absurd v
-is-printex (head.Faulty c) fs v k = absurd v
+pub is-printex : (h : Head) (fs : List (List ℕ)) → Says h fs → ((r : ℕ) → h ≡ head.Input r → ⊥) → ((r n : ℕ) → h ≡ head.Inputs r n → ⊥)
+    → (h ≡ head.Print → ⊥) → h ≡ head.Printex
+is-printex head.Printex fs v i j k = refl
+is-printex (head.Input r) fs v i j k = absurd (i r refl)
+is-printex (head.Inputs r n) fs v i j k = absurd (j r n refl)
+is-printex head.Print fs v i j k = absurd (k refl)
+is-printex head.Phrase fs v i j k = absurd v
+is-printex (head.If test) fs v i j k = absurd v
+is-printex head.Else fs v i j k = absurd v
+is-printex head.Fi fs v i j k = absurd v
+is-printex (head.Goto n) fs v i j k = absurd v
+is-printex (head.IfSkip test n) fs v i j k = absurd v
+is-printex (head.Faulty c) fs v i j k = absurd v
 
 -- ---- the statement that begins with a line whose bytes are t
 

@@ -1,7 +1,6 @@
 -- `is_accented` meets its contract: one test after the other.
 use mathlib.Core.Path.{sym, ◌∙◌}
 use Rattle.plate_texts.proofs.Spelled.{accented-plain, accented-new, accented-ill}
-use borrow.Author.Rules.{rules}
 use Rattle.phrases.specs.Lookup.{book_texts, own_texts}
 use Rattle.plate_texts.proofs.accented_text.is_accented.Goals as goal
 

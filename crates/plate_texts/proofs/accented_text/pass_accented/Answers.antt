@@ -2,7 +2,6 @@
 use Prim.Native.Nat.{◌+◌}
 use mathlib.Core.Path.{sym, ap, ◌∙◌}
 use lib.ListN.{length}
-use borrow.Author.Rules.{rules}
 use Rattle.output.specs.Pour.{up_to}
 use Rattle.fields.specs.Places.{field_read, size_read, refusal_of, measured}
 use Rattle.fields.proofs.Answers.{answered, size-got}

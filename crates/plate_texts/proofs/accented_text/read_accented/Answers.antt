@@ -11,7 +11,6 @@ use Rattle.plate.specs.Plate.{spelled}
 use Rattle.fields.proofs.Answers.{size-got, size-kept}
 use Rattle.fields.proofs.Copies.{length-characters}
 use Rattle.plate_texts.proofs.Spelled.{sized-few, spelled-got, spelled-not, spelled-sized}
-use borrow.Author.Rules.{rules}
 use Rattle.plate_texts.proofs.accented_text.read_accented.Goals as goal
 
 pub returns-in_default : goal.returns-in_default

@@ -1,7 +1,4 @@
 -- `copy_options` meets its contract: the number, which is good where the options are, then so many texts.
-use Rattle.transcript.specs.Offered.{options_bytes}
-use Rattle.fields.specs.Places.{place_at}
-use Rattle.plate.specs.Plate.{options}
 use mathlib.Core.Path.{◌∙◌}
 use native.Mathlib.Omega.{arith}
 use borrow.Author.Rules.{rules}
@@ -14,6 +11,9 @@ use Rattle.plate_texts.proofs.OptionsRead.{options-read, options-number}
 use Rattle.plate_texts.proofs.CopiedTexts.{options-alike}
 use Rattle.plate_texts.proofs.copying.copy_options.Goals as goal
 
+pub returns-in_default : goal.returns-in_default
+unfolding reader.options
+returns-in_default c = absurd (c.requires.1.good (then-stopped _ _ _ (field-refused _ _ c.read_plain-field.ensures c.in_default.is ∙ options-number _ _ _ c.requires.1)))
 
 pub overflow_add-options : goal.overflow_add-options
 overflow_add-options c = let few = got-good _ (gives-number 3) (field-got _ _ c.read_plain-field.ensures c.in-Is.is) in omega (arith, few)
@@ -25,5 +25,3 @@ copy_texts-copied-requires c = let k = field-got _ _ c.read_plain-field.ensures 
 pub returns : goal.returns
 returns c = let k = field-got _ _ c.read_plain-field.ensures c.in-Is.is ∙ options-number _ _ _ c.requires.1 in
     record { out_after = (options-alike _ _ _ _ _ (options-read _ _ _ _ k) (c.copy_texts-copied.ensures.out_after, c.copy_texts-copied.ensures.next_value)).0; next_value = (options-alike _ _ _ _ _ (options-read _ _ _ _ k) (c.copy_texts-copied.ensures.out_after, c.copy_texts-copied.ensures.next_value)).1 }
-
-

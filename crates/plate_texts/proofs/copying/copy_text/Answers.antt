@@ -1,25 +1,18 @@
 -- `copy_text` meets its contract: the text is no refusal, and is its characters or its phrase.
 use Rattle.plate.specs.Plate.{text}
-use Prim.Native.Nat.{◌+◌}
-use mathlib.Core.Path.{◌≡◌, ◌∙◌}
+use mathlib.Core.Path.{◌∙◌}
 use native.Mathlib.Omega.{arith}
-use borrow.Author.Rules.{rules}
-use Rattle.phrases.specs.Phrases.{is_new}
-use Rattle.phrases.specs.Lookup.{book_texts, own_texts, phrases_in}
-use Rattle.causes.specs.declared.Cause.TheVariants.{Unused}
-use Rattle.plate.specs.Reading.{got, number, judged}
+use Rattle.phrases.specs.Lookup.{book_texts, own_texts}
+use Rattle.plate.specs.Reading.{number}
 use Rattle.plate.specs.Plate.{spelled, is_accented}
 use Rattle.plate.specs.Plate as reader
-use Rattle.fields.specs.Places.{place_at, until_etx, Known}
+use Rattle.fields.specs.Places.{place_at, until_etx}
 use Rattle.fields.proofs.Onward.{then-got}
 use Rattle.plate_texts.proofs.PhraseRead.{book-count}
 use Rattle.plate_texts.proofs.TextsRead.{code-ahead, code-room, known-phrase, by-spelled, by-accented, by-phrase}
 use Rattle.plate_texts.proofs.Known.{known_same, known-then, known-judged}
 use Rattle.plate_texts.proofs.CopiedTexts.{copied-alike}
 use Rattle.plate_texts.proofs.copying.copy_text.Goals as goal
-
-
-
 
 pub overflow_add-at : goal.overflow_add-at
 overflow_add-at c = omega (arith, code-room _ _ _ c.requires.1, c.requires.0.short)

@@ -1,19 +1,14 @@
 -- `copy_texts` meets its contract. The loop's invariant: what is left of the texts is known to be good, ends where all of them end, and
 -- written from here on makes all of them. The measure is what is left.
 use Prim.Native.Nat.{◌≤◌}
-use mathlib.Core.Path.{◌≡◌, refl}
-use native.Mathlib.Omega.{arith}
+use mathlib.Core.Path.{◌≡◌}
 use lib.ListN.{length}
-use borrow.Author.Rules.{rules}
-use Rattle.output.proofs.Poured.{ended}
 use Rattle.phrases.specs.Lookup.{phrases_in}
 use Rattle.plate.specs.Reading.{many}
 use Rattle.plate.specs.Plate as reader
 use Rattle.fields.specs.Places.{place_at, Known}
-use Rattle.plate_texts.proofs.Known.{known-one, known-others}
-use Rattle.plate_texts.proofs.Ended.{ended_some}
-use Rattle.plate_texts.proofs.TextsRead.{Passing, passing-start, passing-more, passing-end}
-use Rattle.plate_texts.proofs.CopiedTexts.{Left, left-all, left-more, left-none}
+use Rattle.plate_texts.proofs.TextsRead.{Passing}
+use Rattle.plate_texts.proofs.CopiedTexts.{Left}
 use Rattle.plate_texts.proofs.copying.copy_texts.Given as goal
 
 abbrev pub invariant-loop-left : goal.invariant-loop-left

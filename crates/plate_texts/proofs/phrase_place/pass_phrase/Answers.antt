@@ -1,28 +1,16 @@
 -- `pass_phrase` meets its contract: the source, and the place there.
 use Prim.Native.Nat.{◌+◌}
-use mathlib.Core.Path.{◌≡◌, refl, sym, ap, ◌∙◌}
+use mathlib.Core.Path.{refl, sym, ap, ◌∙◌}
 use native.Mathlib.Omega.{arith}
 use lib.ListN.{length}
-use borrow.Author.Rules.{rules}
 use Rattle.output.specs.Pour.{up_to}
-use Rattle.phrases.specs.Lookup.{book_texts, own_texts}
-use Rattle.plate.specs.Reading.{got}
-use Rattle.fields.specs.Places.{place_at, measured, field_read}
+use Rattle.fields.specs.Places.{measured, field_read}
 use Rattle.fields.proofs.Answers.{answered, refused, field-got}
 use Rattle.plate_texts.proofs.Ended.{measured-is}
-use Rattle.plate_texts.specs.Sources.{source, source_read, source_refusal}
+use Rattle.plate_texts.specs.Sources.{source_read, source_refusal}
 use Rattle.plate_texts.proofs.SourceRead.{source-near}
 use Rattle.plate_texts.proofs.PhraseRead.{phrase_read, source_of, source-stopped, source-good, place-good, phrase-read}
 use Rattle.plate_texts.proofs.phrase_place.pass_phrase.Goals as goal
-
--- the source, of the book's texts and of the own ones
-source-read : (c : goal.In-Is-2) →
-    got (c.in-Is.is_own, c.in-Is.n) (place_at c.args.plate.now (c.args.at + c.in-Is.k))
-    ≡ source (length (book_texts c.args.book.now)) (length (own_texts c.args.count c.args.own.now)) (place_at c.args.plate.now (c.args.at + 2))
-source-read c =
-    let c<Start> = c<Start> in
-    answered (source_read c.args.plate.now c.args.at) source_refusal
-    (source_of c.requires.0 c.args.at _ c.read_source-source.result c.count_of.ensures c.read_source-source.ensures) c.in-Is.is
 
 pub read_source-source-requires : goal.read_source-source-requires
 read_source-source-requires c = (c.requires.0.short, c.requires.2, omega (arith, c.requires.3, c.requires.0.short))
@@ -46,7 +34,7 @@ returns-in_default-field c =
     let e = (answered (source_read c.args.plate.now c.args.at) source_refusal
     (source_of c.requires.0 c.args.at _ c.read_source-source.result c.count_of.ensures c.read_source-source.ensures) c.in-Is.is) in
     ap (field_read c.args.plate.now) c.in_default-field.is
-    ∙ ap (λ c.read_place-field.result. measured (λ t. up_to (c.args.front + length t)) (phrase_read c.args.plate.now c.args.book.now c.args.own.now c.in-Is.is_own c.read_place-field.result)) (sym c.in_default-field.is)
+    ∙ ap (λ f. measured (λ t. up_to (c.args.front + length t)) (phrase_read c.args.plate.now c.args.book.now c.args.own.now c.in-Is.is_own f)) (sym c.in_default-field.is)
     ∙ ap (measured (λ t. up_to (c.args.front + length t))) (phrase-read c.requires.0 c.args.at _ _ _ e (source-good c.requires.0 c.args.at _ _ _ e c.requires.1) c.read_place-field.result c.read_place-field.ensures)
 
 pub phrase_text-text-requires : goal.phrase_text-text-requires

@@ -2,7 +2,6 @@
 use Prim.Native.Nat.{◌+◌}
 use mathlib.Core.Path.{refl, ap}
 use native.Mathlib.Omega.{arith}
-use borrow.Author.Rules.{rules}
 use Rattle.plate_texts.proofs.PhraseRead.{width_small}
 use Rattle.plate_texts.proofs.phrase_place.place_ahead.Goals as goal
 

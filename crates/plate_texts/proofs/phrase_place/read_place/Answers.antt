@@ -1,6 +1,5 @@
 -- `read_place` meets its contract: a number, judged.
 use native.Mathlib.Omega.{arith}
-use borrow.Author.Rules.{rules}
 use borrow.Author.Tests.{lt-ltb, le-ltb}
 use Rattle.fields.proofs.Onward.{judged-got, judged-not}
 use Rattle.fields.proofs.Answers.{field-got, field-kept}

@@ -1,16 +1,10 @@
 -- `read_source` meets its contract: own phrases alone, the book alone, or the bit that says which.
-use Prim.Native.Nat.{◌+◌}
-use mathlib.Core.Path.{◌≡◌, ◌∙◌}
-use borrow.Author.Rules.{rules}
-use Rattle.plate.specs.Reading.{number, return, ◌>>=◌}
-use Rattle.fields.specs.Places.{place_at}
+use mathlib.Core.Path.{◌∙◌}
 use Rattle.fields.proofs.Onward.{then-got, then-stopped}
 use Rattle.fields.proofs.Answers.{field-got, field-stopped}
-use Rattle.plate_texts.specs.Sources.{source_by, source}
 use Rattle.plate_texts.proofs.NumberEnds.{bit-read}
 use Rattle.plate_texts.proofs.SourceRead.{only-own, only-book, both, bit-book, bit-own}
 use Rattle.plate_texts.proofs.phrase_place.read_source.Goals as goal
-
 
 pub returns-then-texts-eq0 : goal.returns-then-texts-eq0
 returns-then-texts-eq0 c = only-own _ _ _ c.if-texts-eq0.true

@@ -1,6 +1,5 @@
 -- `is_new` meets its contract: the lookup finds nothing.
 use mathlib.Core.Path.{sym, ap, ◌∙◌}
-use borrow.Author.Rules.{rules}
 use Rattle.phrases.specs.Phrases.{is_nowhere}
 use Rattle.phrases.proofs.Answers.{found-is}
 use Rattle.plate_texts.proofs.spelled_text.is_new.Goals as goal

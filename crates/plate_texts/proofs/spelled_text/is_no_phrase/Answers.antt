@@ -2,7 +2,6 @@
 use mathlib.Core.Path.{sym, ap, ◌∙◌}
 use native.Mathlib.Omega.{arith}
 use lib.ListN.{length}
-use borrow.Author.Rules.{rules}
 use Rattle.fields.proofs.Copies.{copied-text}
 use Rattle.plate_texts.proofs.spelled_text.is_no_phrase.Goals as goal
 

@@ -4,7 +4,6 @@ use Rattle.phrases.specs.Lookup.{own_texts}
 use Rattle.phrases.specs.Lookup.{book_texts}
 use mathlib.Core.Path.{sym, ap, ◌∙◌}
 use lib.ListN.{length}
-use borrow.Author.Rules.{rules}
 use Rattle.plate.specs.Plate.{spelled}
 use Rattle.fields.specs.Places.{until_etx, values_of}
 use Rattle.fields.proofs.Answers.{size-got, size-kept}

@@ -1,15 +1,12 @@
 -- `pass_text` meets its contract: the code, then characters of 7 or 8 bits, or a phrase.
 use Prim.Native.Nat.{◌+◌}
-use mathlib.Core.Path.{◌≡◌, sym, ap, ◌∙◌}
+use mathlib.Core.Path.{sym, ap, ◌∙◌}
 use native.Mathlib.Omega.{arith}
 use lib.ListN.{length}
 use borrow.Author.Rules.{rules}
 use Rattle.output.specs.Pour.{up_to}
-use Rattle.phrases.specs.Phrases.{is_new}
-use Rattle.phrases.specs.Lookup.{book_texts, own_texts, phrases_in}
-use Rattle.causes.specs.declared.Cause.TheVariants.{Unused}
-use Rattle.plate.specs.Reading.{number, judged}
-use Rattle.fields.specs.Places.{place_at, field_read, refusal_of, size_read, until_etx, values_of, measured}
+use Rattle.phrases.specs.Lookup.{phrases_in}
+use Rattle.fields.specs.Places.{field_read, refusal_of, size_read, until_etx, values_of, measured}
 use Rattle.plate.specs.Plate.{spelled, phrase}
 use Rattle.plate.specs.Plate as reader
 use Rattle.fields.proofs.Onward.{then-got, then-stopped, judged-stopped}
@@ -22,26 +19,6 @@ use Rattle.plate_texts.proofs.PhraseRead.{book-count}
 use Rattle.plate_texts.proofs.Spelled.{sized-few, none-there, spelled-got, spelled-sized, spelled-not}
 use Rattle.plate_texts.proofs.TextsRead.{text-code, some-phrase, by-spelled, by-accented, by-phrase}
 use Rattle.plate_texts.proofs.text_at.pass_text.Goals as goal
-
--- the code, as the reader judges it
-code_read : (c : goal.After-read_code-field) →
-    let a = c.args in
-    field_read a.plate.now c.read_code-field.result
-    ≡ judged (number 2) (reader.is_text_code (phrases_in a.book.now a.own.now a.count)) Unused (place_at a.plate.now a.at)
-code_read c =
-    c.read_code-field.ensures
-    ∙ text-code (phrases_in c.args.book.now c.args.own.now c.args.count) (c.count_of.result + c.args.count) _ _
-    (omega (arith, c.count_of.ensures, book-count c.requires, c.requires.listed.numbers.whole))
-
--- a text that is spelled out behind its code
-spelled-there : (c : goal.Else-code-ne0) →
-    let a = c.args in
-    spelled 7 (is_new (book_texts a.book.now) (own_texts a.count a.own.now)) (place_at a.plate.now c.in-Is.bit)
-    ≡ reader.text (phrases_in a.book.now a.own.now a.count) (place_at a.plate.now a.at)
-unfolding reader.text
-spelled-there c =
-    by-spelled _ _ _ c.if-code-ne0.false
-    ∙ then-got _ _ _ (field-got _ _ (code_read c<After-read_code>) c.in-Is.is)
 
 pub overflow_add-n : goal.overflow_add-n
 overflow_add-n c = omega (arith, c.count_of.ensures, book-count c.requires, c.requires.listed.indexed.few, c.requires.listed.few)
@@ -78,6 +55,7 @@ returns-then-code-ne0 c =
     ∙ ap (measured (λ t. up_to (c.args.front + length t))) (ap (phrase _ _) (sym (judged-behind _ _ _ _ _ _ _ code)) ∙ by-phrase _ _ _ c.if-code-ne0.true c.if-code-eq1.false ∙ then-got _ _ _ code)
 
 pub returns-in_default-characters : goal.returns-in_default-characters
+unfolding reader.text spelled
 returns-in_default-characters c =
     ap (field_read c.args.plate.now) c.in_default-characters.is
     ∙ ap (measured (λ t. up_to (c.args.front + length t))) (judged-stopped (until_etx 7) _ _ _ _ (answered (size_read 7 c.args.plate.now _) refusal_of c.read_size-characters.ensures c.in_default-characters.is)
@@ -87,6 +65,7 @@ returns-in_default-characters c =
     (omega (arith, c.count_of.ensures, book-count c.requires, c.requires.listed.numbers.whole)))) c.in-Is.is)))
 
 pub returns-then-n-eq0 : goal.returns-then-n-eq0
+unfolding reader.text
 returns-then-n-eq0 c =
     let none = none-there c.args.index.now _ c.args.own.now c.args.count _ c.requires.listed.indexed (omega (arith, c.count_of.ensures)) in
     measured-is (λ t. up_to (c.args.front + length t)) _ (c.sum.ensures ∙ ap (λ n. up_to (c.args.front + n)) (sym (length-characters 7 _ _)))
@@ -102,6 +81,7 @@ is_no_phrase-requires c =
     (c.requires.short, c.requires.listed.indexed, c.requires.listed.numbers, got-known e, sym (length-characters 7 _ _) ∙ ap (λ m. length (values_of m)) e, sized-few 7 c.args.plate.now c.args.at _ _ c.is_sized.ensures c.if-is_sized.true)
 
 pub returns-then-is_no_phrase : goal.returns-then-is_no_phrase
+unfolding reader.text
 returns-then-is_no_phrase c =
     measured-is (λ t. up_to (c.args.front + length t)) _ (c.sum-then-is_no_phrase.ensures ∙ ap (λ n. up_to (c.args.front + n)) (sym (length-characters 7 _ _)))
     (spelled-got 7 _ _ _ _ c.is_sized.ensures _ (size-got 7 _ _ _ c.read_size-characters.ensures c.in-Is-characters.is)
@@ -111,6 +91,7 @@ returns-then-is_no_phrase c =
     (omega (arith, c.count_of.ensures, book-count c.requires, c.requires.listed.numbers.whole)))) c.in-Is.is)))
 
 pub returns-else-is_no_phrase : goal.returns-else-is_no_phrase
+unfolding reader.text
 returns-else-is_no_phrase c =
     ap (measured (λ t. up_to (c.args.front + length t))) (spelled-not 7 _ _ _ (size-got 7 _ _ _ c.read_size-characters.ensures c.in-Is-characters.is)
     (sym c.is_no_phrase.ensures ∙ c.if-is_no_phrase.false) ∙ (by-spelled _ _ _ c.if-code-ne0.false
@@ -119,6 +100,7 @@ returns-else-is_no_phrase c =
     (omega (arith, c.count_of.ensures, book-count c.requires, c.requires.listed.numbers.whole)))) c.in-Is.is)))
 
 pub returns-else-is_sized : goal.returns-else-is_sized
+unfolding reader.text
 returns-else-is_sized c =
     ap (measured (λ t. up_to (c.args.front + length t))) (spelled-sized 7 _ _ _ _ c.is_sized.ensures _ (size-got 7 _ _ _ c.read_size-characters.ensures c.in-Is-characters.is)
     c.if-is_sized.false ∙ (by-spelled _ _ _ c.if-code-ne0.false

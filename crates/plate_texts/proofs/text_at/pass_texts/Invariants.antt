@@ -1,17 +1,12 @@
 -- `pass_texts` meets its contract. The loop's invariant: what is left ends where all of it ends. The measure is what is left.
 use Prim.Native.Nat.{◌+◌, ◌≤◌}
-use mathlib.Core.Path.{refl, ap, ◌∙◌}
-use lib.ListN.{length, length-append}
-use native.Mathlib.Omega.{arith}
-use borrow.Author.Rules.{rules}
+use lib.ListN.{length}
 use Rattle.output.specs.Pour.{up_to}
 use Rattle.transcript.specs.Offered.{options_bytes}
 use Rattle.phrases.specs.Lookup.{phrases_in}
 use Rattle.plate.specs.Plate as reader
-use Rattle.fields.specs.Places.{place_at, field_read}
-use Rattle.fields.proofs.Answers.{field-got, field-refused}
-use Rattle.plate_texts.proofs.Ended.{measured-some, measured-stopped}
-use Rattle.plate_texts.proofs.TextsRead.{Passing, passing-start, passing-more, passing-stopped, passing-end}
+use Rattle.fields.specs.Places.{place_at}
+use Rattle.plate_texts.proofs.TextsRead.{Passing}
 use Rattle.plate_texts.proofs.text_at.pass_texts.Given as goal
 
 abbrev pub invariant-loop-left : goal.invariant-loop-left

@@ -2,13 +2,11 @@
 use Prim.Native.Nat.{◌+◌}
 use mathlib.Core.Path.{◌≡◌, sym, ap, ◌∙◌}
 use native.Mathlib.Omega.{arith}
-use borrow.Author.Rules.{rules}
 use Rattle.plate.specs.Reading.{number}
-use Rattle.fields.specs.Places.{place_at, field_read}
+use Rattle.fields.specs.Places.{place_at}
 use Rattle.fields.proofs.Onward.{judged-got, judged-not}
 use Rattle.fields.proofs.Answers.{field-got, field-kept}
 use Rattle.plate_texts.proofs.text_at.read_code.Goals as goal
-
 
 pub returns-in_default : goal.returns-in_default
 returns-in_default c = field-kept _ _ _ _ _ c.in_default.is _ ((let a = c.args in

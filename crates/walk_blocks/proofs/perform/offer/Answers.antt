@@ -33,7 +33,7 @@ loop-end-preserved c =
     (omega (arith, l.1), omega (arith, c.choose-t.ensures.again_value.1, c.loop-end.invariant.1), search rules, rw add-one (l.0 ∙ c.loop-end.invariant.3))
 
 pub returns-else-t : goal.returns-else-t
-unfolding split performed laid perform machine_state
+unfolding perform
 returns-else-t c =
     let last = sym c.choose-t.ensures.again_value.0 ∙ c.if-t.false in
     let l = lay-left _ _ _ _ _ _ _ _ _ _ _ _ _ _ _ c.put_choices-behind.ensures c.choose-t.ensures.out_after c.requires.1 (omega (arith, c.well_formed, c.loop-end.invariant.2)) (omega (arith, c.well_formed, c.loop-end.invariant.2)) last in

@@ -25,10 +25,10 @@ pub slice_bounds-show-start : goal.slice_bounds-show-start
 slice_bounds-show-start c = (texts _ _ _ c.requires.1 c.in-Print.is).1
 
 pub slice_bounds-rule-count : goal.slice_bounds-rule-count
-slice_bounds-rule-count c = (texts _ _ _ c.requires.1 (is-printex _ _ c.requires.0 c.in_default.in_default-own.keys4)).1
+slice_bounds-rule-count c = (texts _ _ _ c.requires.1 (is-printex _ _ c.requires.0 c.in_default.not-Input c.in_default.not-Inputs c.in_default.not-Print)).1
 
 pub slice_bounds-rule-start : goal.slice_bounds-rule-start
-slice_bounds-rule-start c = (texts _ _ _ c.requires.1 (is-printex _ _ c.requires.0 c.in_default.in_default-own.keys4)).1
+slice_bounds-rule-start c = (texts _ _ _ c.requires.1 (is-printex _ _ c.requires.0 c.in_default.not-Input c.in_default.not-Inputs c.in_default.not-Print)).1
 
 pub returns-in-Input : goal.returns-in-Input
 returns-in-Input c =
@@ -45,6 +45,6 @@ returns-in-Print c =
 
 pub returns-in_default : goal.returns-in_default
 returns-in_default c =
-    let e = is-printex c.args.head _ c.requires.0 c.in_default.in_default-own.keys4 in
+    let e = is-printex c.args.head _ c.requires.0 c.in_default.not-Input c.in_default.not-Inputs c.in_default.not-Print in
     let t = whole-rest c.args.line.now 8 ∙ sym (texts _ _ _ c.requires.1 e).0 in
     record { out_after = rw e (rw t at (c.rule.ensures.out_after c.args.registers.now c.args.answers.now)); steps_bound = omega (arith, c.rule.ensures.steps_value.0) }

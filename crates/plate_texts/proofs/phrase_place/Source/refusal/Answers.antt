@@ -1,6 +1,5 @@
 -- `Source::refusal` meets its contract.
 use mathlib.Core.Path.{ap, sym}
-use borrow.Author.Rules.{rules}
 use Rattle.plate_texts.specs.Sources.{source_refusal}
 use Rattle.plate_texts.proofs.phrase_place.Source.refusal.Goals as goal
 

@@ -45,7 +45,7 @@ fn read_open<R: Read>(rt: &HostRuntime, file: &mut R, name: &[u8], space: &mut [
     Input::Holds(done)
 }
 
-// A file by its name. The system's library opens none whose name is not UTF-8.
+// A file, opened by its name. The standard library opens none whose name is not UTF-8.
 fn open(rt: &HostRuntime, name: &[u8]) -> io::Result<File> {
     match str::from_utf8(name) {
         Ok(path) => fs::open(rt, path),
@@ -53,7 +53,7 @@ fn open(rt: &HostRuntime, name: &[u8]) -> io::Result<File> {
     }
 }
 
-// The same of a file by its name.
+// Reads the file of a name so; `-` is standard input.
 fn read_named(rt: &HostRuntime, name: &[u8], space: &mut [u8]) -> Input
     ensures { Within result space.new }
 {

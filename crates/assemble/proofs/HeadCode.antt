@@ -4,8 +4,6 @@ use mathlib.Core.Path.{◌≡◌, refl, sym, ap, ◌∙◌}
 use mathlib.Core.List.{List, [], ◌∷◌, append-nil}
 use mathlib.Core.Bool.{Bool}
 use lib.ListN.{length}
-use types.Run.{OneOf, miss}
-use denote.Enum.Declared.{tag_of}
 use Rattle.output.specs.Pour.{poured}
 use Rattle.text.specs.Parts.{split, comma}
 use Rattle.text.specs.Text.{Text}
@@ -17,7 +15,6 @@ use Rattle.lines.specs.declared.Head.{Head}
 use Rattle.lines.specs.declared.Head.TheVariants as head
 use Rattle.lines.specs.Line.{Line, phrase, says, if_line, else_line, fi_line, goto_line, if_skip_line, faulty, line_of}
 use Rattle.lines.specs.Answers.{head_of}
-use Rattle.lines.specs.contracts.Head.{the_type}
 use Rattle.lines.proofs.FieldsRead.{ReadAs, as-fault, as-phrase, as-input, as-inputs, as-print, as-printex}
 use Rattle.lines.proofs.FieldsRead.{as-if, as-else, as-fi, as-goto, as-if-skip, line-read-as}
 use Rattle.plate.specs.Program.{Instruction, statement, goto, if_skip, skip_of}
@@ -72,22 +69,19 @@ head-code form s k e f = rw (f, e) (read-code k (line-read-as form s))
 
 -- ---- what the code has written, by the head h
 
--- the heads of all lines but a guide's if and `else`, by their places in the enum
-abbrev others : List ℕ
-others = 0 ∷ 1 ∷ 2 ∷ 3 ∷ 4 ∷ 7 ∷ 8 ∷ 9 ∷ 10 ∷ []
-
-other-code : (k : ℕ) (h : Head) (fs : List Text) → OneOf others (tag_of the_type h) → line_instruction h fs ≡ head_code k h fs
-other-code k head.Phrase fs o = refl
-other-code k (head.Input r) fs o = refl
-other-code k (head.Inputs r n) fs o = refl
-other-code k head.Print fs o = refl
-other-code k head.Printex fs o = refl
-other-code k (head.If test) fs o = absurd (miss others 5 tt o)
-other-code k head.Else fs o = absurd (miss others 6 tt o)
-other-code k head.Fi fs o = refl
-other-code k (head.Goto j) fs o = refl
-other-code k (head.IfSkip test j) fs o = refl
-other-code k (head.Faulty c) fs o = refl
+-- the heads of all lines but a guide's if and `else`
+other-code : (k : ℕ) (h : Head) (fs : List Text) → ((test : Test) → h ≡ head.If test → ⊥) → (h ≡ head.Else → ⊥) → line_instruction h fs ≡ head_code k h fs
+other-code k head.Phrase fs o p = refl
+other-code k (head.Input r) fs o p = refl
+other-code k (head.Inputs r n) fs o p = refl
+other-code k head.Print fs o p = refl
+other-code k head.Printex fs o p = refl
+other-code k (head.If test) fs o p = absurd (o test refl)
+other-code k head.Else fs o p = absurd (p refl)
+other-code k head.Fi fs o p = refl
+other-code k (head.Goto j) fs o p = refl
+other-code k (head.IfSkip test j) fs o p = refl
+other-code k (head.Faulty c) fs o p = refl
 
 module _ (c : Phrases) (k : ℕ) (h : Head) (fs : List Text) (at : ℕ) (old : List Bool) (last : ℕ × List Bool) where
   one-put : (i : Instruction) → head_code k h fs ≡ i ∷ [] → last ≡ poured at (instruction_bits c i) old
@@ -103,7 +97,7 @@ module _ (c : Phrases) (k : ℕ) (h : Head) (fs : List Text) (at : ℕ) (old : L
       → last ≡ poured at (instructions_bits c (head_code k h fs)) old
   else-put j f = one-put (goto k) (rw j) f
 
-  pub other-put : OneOf others (tag_of the_type h) → last ≡ poured at (line_bits c h fs) old
+  pub other-put : ((test : Test) → h ≡ head.If test → ⊥) → (h ≡ head.Else → ⊥) → last ≡ poured at (line_bits c h fs) old
       → last ≡ poured at (instructions_bits c (head_code k h fs)) old
   unfolding line_bits
-  other-put o f = f ∙ ap (λ (is : List Instruction). poured at (instructions_bits c is) old) (other-code k h fs o)
+  other-put o p f = f ∙ ap (λ (is : List Instruction). poured at (instructions_bits c is) old) (other-code k h fs o p)

@@ -1,6 +1,5 @@
 -- `put_goto` meets its contract: the code and the skip are one number.
 use mathlib.Core.Path.{sym}
-use borrow.Author.Rules.{rules}
 use Rattle.writer.proofs.Codes.{goto-skip}
 use Rattle.writer.proofs.instructions.put_goto.Goals as goal
 

@@ -6,5 +6,5 @@ use Rattle.writer.proofs.instructions.put_if.Goals as goal
 
 pub returns : goal.returns
 returns c =
-    let back = to_z-of_z {w = w32} {z = c.args.test.constant} (record { sfits = c.struct_told-1.given.1.1.0.1 }) in
+    let back = to_z-of_z {w = w32} {z = c.args.test.constant} (search rules) in
     λ p. rw (c.op_code.ensures.value, back) at c.put_test.ensures

@@ -1,6 +1,5 @@
 -- `put_input` meets its contract: the code and the register are one number.
 use mathlib.Core.Path.{sym}
-use borrow.Author.Rules.{rules}
 use Rattle.lines.proofs.FieldPlaces.{whole-rest}
 use Rattle.writer.proofs.Codes.{register-alone}
 use Rattle.writer.proofs.instructions.put_input.Goals as goal

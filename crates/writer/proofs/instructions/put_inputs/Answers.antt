@@ -1,5 +1,4 @@
 -- `put_inputs` meets its contract: the fields of the line, one behind the other; the code and the register are one number.
-use borrow.Author.Rules.{rules}
 use Rattle.lines.proofs.LineTexts.{chosen-text, chosen-options}
 use Rattle.writer.proofs.Codes.{code-register}
 use Rattle.text_bits.proofs.Writes.{both}

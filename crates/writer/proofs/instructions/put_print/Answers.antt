@@ -1,5 +1,4 @@
 -- `put_print` meets its contract: the text goes to the line's end.
-use borrow.Author.Rules.{rules}
 use Rattle.lines.proofs.FieldPlaces.{whole-rest}
 use Rattle.writer.proofs.instructions.put_print.Goals as goal
 

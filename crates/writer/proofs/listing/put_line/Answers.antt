@@ -51,4 +51,6 @@ returns-in-IfSkip c =
     line_writes _ _ _ _ c.in-IfSkip.is _ _ _ _ refl (c.put_if.ensures (phrases_in a.book.now a.own.now a.count))
 
 pub returns-in_default : goal.returns-in_default
-returns-in_default c = line-silent _ _ _ _ _ c.in_default.in_default-own.keys7 (search rules)
+returns-in_default c =
+    let d = c.in_default in
+    line-silent _ d.not-Input d.not-Inputs d.not-Print d.not-Printex d.not-Goto d.not-IfSkip _ _ _ _ (search rules)

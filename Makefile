@@ -1,7 +1,7 @@
 # test: the whole verdict, from nothing. show: the listing and the plate of a guide.
 # library: the C archive and its header, in target/library. example-c: a C program that links it, on the guides of examples/.
 # fuzz: the archive beside the model on N cases of a seed. bench: time, growth, stack, bytes of code and, by count, instructions (callgrind).
-# tools: the four tools, in target/bin. tools-test: their stored runs. names: what the documents name, looked up.
+# tools: the four tools, each as crates/NAME/out/NAME. tools-test: their stored runs. names: what the documents name, looked up.
 .PHONY: test show library example-c fuzz bench count harness-test tools tools-test names
 
 GUIDE = examples/incident.guide
@@ -10,7 +10,6 @@ SEED = 1
 
 LIBRARY = target/library
 ARCHIVE = $(LIBRARY)/libdoorplate.a
-BIN = target/bin
 TOOLS = guidewalk platerun platelist listplate
 HARNESS = --release --offline --quiet --manifest-path harness/Cargo.toml
 C_FLAGS = -std=c99 -O2 -Wall -Wextra -Wpedantic -Werror
@@ -22,15 +21,10 @@ test:
 # `rt run` proves a program, builds it as out/NAME in its crate's folder, and runs it.
 show:
 	cd crates/plateshow && rt run < $(abspath $(GUIDE))
-	mkdir -p $(BIN)
-	cp crates/plateshow/out/plateshow $(BIN)
 
 # With no arguments a tool only tells how it is called.
 tools:
-	mkdir -p $(BIN)
-	for tool in $(TOOLS); do \
-	    (cd crates/$$tool && rt run < /dev/null) && cp crates/$$tool/out/$$tool $(BIN) || exit 1; \
-	done
+	for tool in $(TOOLS); do (cd crates/$$tool && rt run < /dev/null) || exit 1; done
 
 tools-test: tools
 	sh tests/tools.sh

@@ -1,0 +1,7 @@
+-- `put_line` meets its contract: what is written into the lent tail is written into the buffer.
+use Rattle.output.proofs.Tails.{in_tail}
+use borrow.Author.Rules.{rules}
+use Rattle.run_steps.proofs.perform.put_line.Goals as goal
+
+pub returns : goal.returns
+returns c = record { out_after = in_tail _ _ _ _ _ _ _ c.least-from.ensures c.line_in-line.ensures.tail_after c.sum-end.ensures; next_value = c.line_in-line.ensures.next_value }

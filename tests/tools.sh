@@ -1,10 +1,12 @@
 #!/bin/sh
-# Runs the tools of target/bin on the stored runs of tests/tools, and on the runs of the folder examples.
+# Runs the tools, each as `rt run` leaves it in its crate's folder out/, on the stored runs of tests/tools, and on the runs of the folder examples.
 # In a file of runs a line `$ COMMAND` stands before what the command prints; `! ` stands before a line of standard error.
 # Prints one line and ends with 1 at the first difference; prints nothing where there is none.
 set -u
 cd "$(dirname "$0")/.." || exit 1
-PATH=$PWD/target/bin:$PATH
+for tool in guidewalk platerun platelist listplate; do
+    PATH=$PWD/crates/$tool/out:$PATH
+done
 room=$(mktemp -d) || exit 1
 trap 'rm -rf "$room"' EXIT
 
@@ -34,7 +36,7 @@ answered() {
 }
 
 for tool in guidewalk platerun platelist listplate; do
-    [ -x "target/bin/$tool" ] || fail "there is no target/bin/$tool: rt check $tool makes it"
+    [ -x "crates/$tool/out/$tool" ] || fail "there is no crates/$tool/out/$tool: make tools makes it"
     stored=tests/tools/$tool.runs
     replay "$stored" >"$room/now"
     cmp -s "$room/now" "$stored" || fail "$stored: $(diff "$room/now" "$stored" | grep -c '^[<>]') lines differ from what is written now"

@@ -1,5 +1,5 @@
-// The five calls for C: include/doorplate.h declares them, and `rt staticlib doorplate` makes the archive.
-// Each exported function has no precondition and promises every field of its answer and the later content of every buffer it was lent,
+// The five calls with the answers that C gets: crate doorplate_c exports them, and include/doorplate.h declares them.
+// Each call has no precondition and promises every field of its answer and the later content of every buffer it was lent,
 // through the definition of the call and the values that specs/Values.antt gives an answer.
 #![tactic(auto)]
 
@@ -87,40 +87,28 @@ fn ran_values(answer: causes::Ran) -> RanValues
 }
 
 // The plate of a guide.
-#[unsafe(no_mangle)]
-pub extern "C" fn doorplate_translate(guide: &[u8], book: &[u8], plate: &mut [u8]) -> WrittenValues
+pub fn doorplate_translate(guide: &[u8], book: &[u8], plate: &mut [u8]) -> WrittenValues
     ensures { WrittenIs result plate.new (translate_call guide.now book.now plate.old) }
 {
     written_values(translate::translate(guide, book, plate))
 }
 
 // The plate of a listing.
-#[unsafe(no_mangle)]
-pub extern "C" fn doorplate_write_plate(
-    listing: &[u8],
-    book: &[u8],
-    plate: &mut [u8],
-) -> WrittenValues
+pub fn doorplate_write_plate(listing: &[u8], book: &[u8], plate: &mut [u8]) -> WrittenValues
     ensures { WrittenIs result plate.new (write_plate_call listing.now book.now plate.old) }
 {
     written_values(write_plate::write_plate(listing, book, plate))
 }
 
 // The listing of a plate.
-#[unsafe(no_mangle)]
-pub extern "C" fn doorplate_read_plate(
-    plate: &[u8],
-    book: &[u8],
-    listing: &mut [u8],
-) -> WrittenValues
+pub fn doorplate_read_plate(plate: &[u8], book: &[u8], listing: &mut [u8]) -> WrittenValues
     ensures { WrittenIs result listing.new (read_plate_call plate.now book.now listing.old) }
 {
     written_values(read_plate::read_plate(plate, book, listing))
 }
 
 // The transcript of a guide, walked on the answers.
-#[unsafe(no_mangle)]
-pub extern "C" fn doorplate_walk(
+pub fn doorplate_walk(
     guide: &[u8],
     book: &[u8],
     answers: &[i32],
@@ -132,8 +120,7 @@ pub extern "C" fn doorplate_walk(
 }
 
 // The transcript of a plate, run on the answers.
-#[unsafe(no_mangle)]
-pub extern "C" fn doorplate_run(
+pub fn doorplate_run(
     plate: &[u8],
     book: &[u8],
     answers: &[i32],

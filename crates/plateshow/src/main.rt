@@ -3,23 +3,24 @@
 // 333,593 bytes.
 #![tactic(auto)]
 
-use libc::{STDIN_FILENO, STDOUT_FILENO};
+use std::io;
+use std::io::Read;
 
 // One byte more than a guide may have.
-const GUIDE: usize = 16385;
+const GUIDE: u64 = 16385;
 
 // More than is ever printed.
 const OUTPUT: usize = 340000;
 
 // What is printed for a guide.
-fn print(guide: &[u8]) {
+fn print(rt: &impl Print, guide: &[u8]) -> io::Result<()> {
     let mut out = [0; OUTPUT];
     let length = show::show(guide, &mut out);
-    io::write_all(STDOUT_FILENO, &out[..length]);
+    rt.write_all(&out[..length])
 }
 
-fn main() {
-    let mut guide = [0; GUIDE];
-    let length = io::read_full(STDIN_FILENO, &mut guide);
-    print(&guide[..length]);
+fn main(rt: HostRuntime) -> io::Result<()> {
+    let mut guide = Vec::new(rt.alloc());
+    rt.stdin().take(GUIDE).read_to_end(&mut guide)?;
+    print(&rt, guide.as_slice())
 }

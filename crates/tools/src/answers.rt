@@ -2,24 +2,33 @@
 ghost use Rattle.std.specs.Prelude.{◌≡◌, take};
 ghost use Rattle.tools.specs.Inputs.{Within};
 
-use crate::{Input, tell};
+use crate::Input;
+use crate::telling::tell_number;
 use decimals::Constant;
 use printed::front;
+use std::env::{Env, FillError};
+
+// Whether there is an argument i. Argument 0 is the program's name.
+pub fn has_argument(rt: &impl Env, i: usize) -> bool {
+    !matches!(rt.arg(i, &mut []), Err(FillError::NotPresent))
+}
 
 // The answers from argument `from` on, by the number rules of a guide's constants. Those that have no room are read too, and left out.
-pub fn read_answers(from: usize, space: &mut [i32]) -> Input
+pub fn read_answers(rt: &HostRuntime, from: usize, space: &mut [i32]) -> Input
     ensures { Within result space.new }
 {
-    let end = os::arg_count();
     let mut count = 0;
-    let mut i = from;
-    while i < end {
-        match read_answer(i) {
+    for i in from..usize::MAX {
+        if !has_argument(rt, i) {
+            break;
+        }
+        match read_answer(rt, i) {
             Constant::Wrong => {
-                tell(
-                    b"argument ",
+                tell_number(
+                    rt,
+                    "argument ",
                     i,
-                    b": not a number from -2147483648 to 2147483647\n",
+                    ": not a number from -2147483648 to 2147483647",
                 );
                 return Input::Unread;
             }
@@ -30,16 +39,17 @@ pub fn read_answers(from: usize, space: &mut [i32]) -> Input
                 }
             }
         }
-        i += 1;
     }
     Input::Holds(count)
 }
 
 // The number of argument i. A longer argument than the longest number is none.
-fn read_answer(i: usize) -> Constant {
+fn read_answer(rt: &impl Env, i: usize) -> Constant {
     let mut word = [0; 16];
-    let length = os::arg(i, &mut word);
-    decimals::read_constant(front(&word, length))
+    match rt.arg(i, &mut word) {
+        Ok(length) => decimals::read_constant(front(&word, length)),
+        Err(_) => Constant::Wrong,
+    }
 }
 
 // The first n answers, or all where there are fewer.

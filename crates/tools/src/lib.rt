@@ -6,10 +6,10 @@
 mod answers;
 mod files;
 mod spaces;
+mod telling;
 
-pub use answers::{first_answers, read_answers};
+pub use answers::{first_answers, has_argument, read_answers};
 pub use files::{read_file, read_plate};
-use libc::STDERR_FILENO;
 pub use spaces::transcript_space;
 
 // How many bytes of a book are enough. A good book has at most 256 lines of 65 bytes, 16,640. Of a longer one the first bad line starts
@@ -33,11 +33,4 @@ pub const ANSWERS: usize = 1536;
 pub enum Input {
     Holds(usize),
     Unread,
-}
-
-// A line with a number in it, to standard error.
-fn tell(first: &[u8], n: usize, last: &[u8]) {
-    io::write_all(STDERR_FILENO, first);
-    io::print_decimal(STDERR_FILENO, n as u64);
-    io::write_all(STDERR_FILENO, last);
 }

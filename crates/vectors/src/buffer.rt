@@ -1,15 +1,15 @@
 // A lent buffer of a vector program: how many bytes a case lends, their content before a call, and how the whole of them is written after
 // it. model/README.md has the format.
 ghost use Rattle.std.specs.Prelude.{◌≡◌, ◌<◌, ◌≤◌, ◌*◌, length};
-ghost use Rattle.io.specs.Counts.{IsPrefixLen};
 ghost use Rattle.output.specs.Pour.{poured};
+ghost use Rattle.vectors.specs.Front.{Front};
 ghost use Rattle.vectors.specs.Lent.{content, lent_of};
 ghost use Rattle.vectors.specs.Sums.{sum_of, buffer_text};
 
 // How many bytes of `space` are lent: as many as a case says, at most all. Callers lend them by the second clause.
 pub fn lent(space: &[u8], length: usize) -> usize
     ensures value { result ≡ lent_of space.now length }
-    ensures prefix_len { IsPrefixLen result space.now }
+    ensures prefix_len { Front result space.now }
 {
     if length < space.len() {
         length

@@ -1,4 +1,4 @@
-// The cases of the five calls, read from standard input one by one into spaces that hold the longest. model/README.md has the format and
+// The cases of the five calls, read from a reader one by one into spaces that hold the longest. model/README.md has the format and
 // the sizes.
 // A program has a space for each part of a case, reads a case into them, makes its call on the parts that the case has, and writes
 // the line. What does not fit its space, or stands past the input's end, is left out, and the lines then differ.
@@ -6,9 +6,10 @@
 // the answers and the scratch length of a run.
 ghost use Rattle.vectors.specs.Front.{Front, Fronts};
 
-use libc::STDIN_FILENO;
+use crate::reading::read_full;
+use std::io::Read;
 
-// A number of standard input, or its end.
+// A number of the input, or its end.
 #[derive(Clone, Copy)]
 enum Number {
     Is(usize),
@@ -25,35 +26,35 @@ pub struct Case {
 }
 
 // The number of the next four bytes, the lowest first.
-fn read_number() -> Number {
+fn read_number<R: Read>(from: &mut R) -> Number {
     let mut bytes = [0; 4];
-    if io::read_full(STDIN_FILENO, &mut bytes) < 4 {
+    if read_full(from, &mut bytes) < 4 {
         return Number::Ends;
     }
     Number::Is(crate::input::number(&bytes, 0))
 }
 
 // The same, 0 at the end.
-fn number_or_zero() -> usize {
-    match read_number() {
+fn number_or_zero<R: Read>(from: &mut R) -> usize {
+    match read_number(from) {
         Number::Is(n) => n,
         Number::Ends => 0,
     }
 }
 
 // The next slice, behind its length: its bytes at the front of `space`, and how many they are.
-fn read_slice(space: &mut [u8]) -> usize
+fn read_slice<R: Read>(from: &mut R, space: &mut [u8]) -> usize
     ensures { Front result space.new }
 {
-    let length = crate::buffer::lent(space, number_or_zero());
-    io::read_full(STDIN_FILENO, &mut space[..length])
+    let length = crate::buffer::lent(space, number_or_zero(from));
+    read_full(from, &mut space[..length])
 }
 
 // The next case up to its book, each part at the front of its space. The lent output has the content that it has before a call.
-pub fn read_case(input: &mut [u8], book: &mut [u8], out: &mut [u8]) -> Case
+pub fn read_case<R: Read>(from: &mut R, input: &mut [u8], book: &mut [u8], out: &mut [u8]) -> Case
     ensures { Fronts result input.new book.new out.new }
 {
-    let Number::Is(length) = read_number() else {
+    let Number::Is(length) = read_number(from) else {
         return Case {
             more: false,
             lent: 0,
@@ -63,8 +64,8 @@ pub fn read_case(input: &mut [u8], book: &mut [u8], out: &mut [u8]) -> Case
     };
     let lent = crate::buffer::lent(out, length);
     crate::buffer::fill(&mut out[..lent]);
-    let first = read_slice(input);
-    let second = read_slice(book);
+    let first = read_slice(from, input);
+    let second = read_slice(from, book);
     Case {
         more: true,
         lent,
@@ -74,16 +75,16 @@ pub fn read_case(input: &mut [u8], book: &mut [u8], out: &mut [u8]) -> Case
 }
 
 // The answers of a case, behind their count, at the front of `space`; and how many they are.
-pub fn read_answers(space: &mut [i32]) -> usize
+pub fn read_answers<R: Read>(from: &mut R, space: &mut [i32]) -> usize
     ensures { Front result space.new }
 {
-    let count = number_or_zero();
+    let count = number_or_zero(from);
     let mut i = 0;
     while i < count {
         if space.len() <= i {
             return i;
         }
-        let answer = signed();
+        let answer = signed(from);
         space[i] = answer;
         i += 1;
     }
@@ -91,17 +92,17 @@ pub fn read_answers(space: &mut [i32]) -> usize
 }
 
 // The next number with its sign, in two's complement.
-fn signed() -> i32 {
+fn signed<R: Read>(from: &mut R) -> i32 {
     let mut bytes = [0; 4];
-    io::read_full(STDIN_FILENO, &mut bytes);
+    read_full(from, &mut bytes);
     crate::input::signed(&bytes, 0)
 }
 
 // How many numbers of scratch a case lends, at most all of `space`.
-pub fn read_scratch(space: &[u16]) -> usize
+pub fn read_scratch<R: Read>(from: &mut R, space: &[u16]) -> usize
     ensures { Front result space.now }
 {
-    let count = number_or_zero();
+    let count = number_or_zero(from);
     if count < space.len() {
         count
     } else {

@@ -6,10 +6,12 @@ mod buffer;
 mod cases;
 mod input;
 mod lines;
+mod reading;
 mod spaces;
 
 pub use buffer::{fill, lent, put_buffer};
 pub use cases::{Case, read_answers, read_case, read_scratch};
 pub use input::{byte, long_number, number, past, past_slice, signed, slice};
 pub use lines::{put_ran, put_written};
+pub use reading::read_full;
 pub use spaces::{answers_space, book_space, cases_space, input_space, lent_space, scratch_space};

@@ -5,8 +5,8 @@
 
 use causes::limits::PLATE_BYTES;
 use causes::{Ran, Report, Written};
-use libc::STDOUT_FILENO;
 use printed::front;
+use std::io;
 
 // Whether two reports are the same.
 fn same_report(a: Report, b: Report) -> bool {
@@ -78,57 +78,82 @@ fn call(
 }
 
 // The same with a second output as long as the first, and with its content; and the line, which has fewer than 256 bytes.
-fn twice(guide: &[u8], book: &[u8], answers: &[i32], first: &mut [u8], other: &mut [u8]) {
+fn twice(
+    rt: &impl Print,
+    guide: &[u8],
+    book: &[u8],
+    answers: &[i32],
+    first: &mut [u8],
+    other: &mut [u8],
+) -> io::Result<()> {
     let lent = vectors::lent(other, first.len());
     let second = &mut other[..lent];
     vectors::fill(second);
     let mut line = [0; 256];
     let end = call(&mut line, guide, book, answers, first, second);
-    io::write_all(STDOUT_FILENO, front(&line, end));
+    rt.write_all(front(&line, end))
 }
 
 // One case, if there is one more.
 fn case(
+    rt: &HostRuntime,
     input: &mut [u8],
     book: &mut [u8],
     answers: &mut [i32],
     out: &mut [u8],
     other: &mut [u8],
-) -> bool {
-    let c = vectors::read_case(input, book, out);
+) -> io::Result<bool> {
+    let mut from = rt.stdin();
+    let c = vectors::read_case(&mut from, input, book, out);
     if !c.more {
-        return false;
+        return Ok(false);
     }
-    let count = vectors::read_answers(answers);
+    let count = vectors::read_answers(&mut from, answers);
     let first = c.input;
     let second = c.book;
     let lent = c.lent;
     twice(
+        rt,
         &input[..first],
         &book[..second],
         &answers[..count],
         &mut out[..lent],
         other,
-    );
-    true
+    )?;
+    Ok(true)
 }
 
 // All cases, up to the end of standard input; at most a million.
-fn cases(input: &mut [u8], book: &mut [u8], answers: &mut [i32], out: &mut [u8], other: &mut [u8]) {
+fn cases(
+    rt: &HostRuntime,
+    input: &mut [u8],
+    book: &mut [u8],
+    answers: &mut [i32],
+    out: &mut [u8],
+    other: &mut [u8],
+) -> io::Result<()> {
     let mut left: usize = 1000000;
     while 0 < left {
-        if !case(input, book, answers, out, other) {
-            return;
+        if !case(rt, input, book, answers, out, other)? {
+            break;
         }
         left -= 1;
     }
+    Ok(())
 }
 
-fn main() {
+fn main(rt: HostRuntime) -> io::Result<()> {
     let mut input = vectors::input_space();
     let mut book = vectors::book_space();
     let mut answers = vectors::answers_space();
     let mut out = vectors::lent_space();
     let mut other = vectors::lent_space();
-    cases(&mut input, &mut book, &mut answers, &mut out, &mut other);
+    cases(
+        &rt,
+        &mut input,
+        &mut book,
+        &mut answers,
+        &mut out,
+        &mut other,
+    )
 }

@@ -5,21 +5,22 @@
 #![tactic(auto)]
 
 use causes::{Ran, Written};
-use libc::{STDIN_FILENO, STDOUT_FILENO};
 use printed::front;
+use std::io;
+use std::io::Stdin;
 
 // The line of an answer and of the lent output after the call, which has fewer than 256 bytes.
-fn print_written(answer: Written, out: &[u8]) {
+fn print_written(rt: &impl Print, answer: Written, out: &[u8]) -> io::Result<()> {
     let mut line = [0; 256];
     let end = vectors::put_written(&mut line, 0, answer, out);
-    io::write_all(STDOUT_FILENO, front(&line, end));
+    rt.write_all(front(&line, end))
 }
 
 // The same for walk and run.
-fn print_ran(answer: Ran, out: &[u8]) {
+fn print_ran(rt: &impl Print, answer: Ran, out: &[u8]) -> io::Result<()> {
     let mut line = [0; 256];
     let end = vectors::put_ran(&mut line, 0, answer, out);
-    io::write_all(STDOUT_FILENO, front(&line, end));
+    rt.write_all(front(&line, end))
 }
 
 // Translate, write_plate or read_plate, on one case, whose lent output has its content already.
@@ -32,94 +33,126 @@ fn written(call: usize, input: &[u8], book: &[u8], out: &mut [u8]) -> Written {
 }
 
 // The same, and the line. The two functions below do so for walk and for run.
-fn call_written(call: usize, input: &[u8], book: &[u8], out: &mut [u8]) {
+fn call_written(
+    rt: &impl Print,
+    call: usize,
+    input: &[u8],
+    book: &[u8],
+    out: &mut [u8],
+) -> io::Result<()> {
     let answer = written(call, input, book, out);
-    print_written(answer, out);
+    print_written(rt, answer, out)
 }
 
-fn call_walk(guide: &[u8], book: &[u8], answers: &[i32], out: &mut [u8]) {
+fn call_walk(
+    rt: &impl Print,
+    guide: &[u8],
+    book: &[u8],
+    answers: &[i32],
+    out: &mut [u8],
+) -> io::Result<()> {
     let answer = walk::walk(guide, book, answers, out);
-    print_ran(answer, out);
+    print_ran(rt, answer, out)
 }
 
-fn call_run(plate: &[u8], book: &[u8], answers: &[i32], scratch: &mut [u16], out: &mut [u8]) {
+fn call_run(
+    rt: &impl Print,
+    plate: &[u8],
+    book: &[u8],
+    answers: &[i32],
+    scratch: &mut [u16],
+    out: &mut [u8],
+) -> io::Result<()> {
     let answer = run::run(plate, book, answers, scratch, out);
-    print_ran(answer, out);
+    print_ran(rt, answer, out)
 }
 
 // The number of the next case's call. Where the input ends it is that of what was read, and no case follows.
-fn read_call() -> usize {
+fn read_call(from: &mut Stdin) -> usize {
     let mut bytes = [0; 4];
-    io::read_full(STDIN_FILENO, &mut bytes);
+    vectors::read_full(from, &mut bytes);
     vectors::number(&bytes, 0)
 }
 
 // One case, if there is one more of a call.
 fn case(
+    rt: &HostRuntime,
     input: &mut [u8],
     book: &mut [u8],
     answers: &mut [i32],
     scratch: &mut [u16],
     out: &mut [u8],
-) -> bool {
-    let call = read_call();
-    let c = vectors::read_case(input, book, out);
+) -> io::Result<bool> {
+    let mut from = rt.stdin();
+    let call = read_call(&mut from);
+    let c = vectors::read_case(&mut from, input, book, out);
     if !c.more {
-        return false;
+        return Ok(false);
     }
     let first = c.input;
     let second = c.book;
     let lent = c.lent;
     if call < 3 {
-        call_written(call, &input[..first], &book[..second], &mut out[..lent]);
-        return true;
+        call_written(rt, call, &input[..first], &book[..second], &mut out[..lent])?;
+        return Ok(true);
     }
-    let count = vectors::read_answers(answers);
+    let count = vectors::read_answers(&mut from, answers);
     if call == 3 {
         call_walk(
+            rt,
             &input[..first],
             &book[..second],
             &answers[..count],
             &mut out[..lent],
-        );
-        return true;
+        )?;
+        return Ok(true);
     }
     if call != 4 {
-        return false;
+        return Ok(false);
     }
-    let numbers = vectors::read_scratch(scratch);
+    let numbers = vectors::read_scratch(&mut from, scratch);
     call_run(
+        rt,
         &input[..first],
         &book[..second],
         &answers[..count],
         &mut scratch[..numbers],
         &mut out[..lent],
-    );
-    true
+    )?;
+    Ok(true)
 }
 
 // All cases, up to the end of standard input; at most a million.
 fn cases(
+    rt: &HostRuntime,
     input: &mut [u8],
     book: &mut [u8],
     answers: &mut [i32],
     scratch: &mut [u16],
     out: &mut [u8],
-) {
+) -> io::Result<()> {
     let mut left: usize = 1000000;
     while 0 < left {
-        if !case(input, book, answers, scratch, out) {
-            return;
+        if !case(rt, input, book, answers, scratch, out)? {
+            break;
         }
         left -= 1;
     }
+    Ok(())
 }
 
-fn main() {
+fn main(rt: HostRuntime) -> io::Result<()> {
     let mut input = vectors::input_space();
     let mut book = vectors::book_space();
     let mut answers = vectors::answers_space();
     let mut scratch = vectors::scratch_space();
     let mut out = vectors::lent_space();
-    cases(&mut input, &mut book, &mut answers, &mut scratch, &mut out);
+    cases(
+        &rt,
+        &mut input,
+        &mut book,
+        &mut answers,
+        &mut scratch,
+        &mut out,
+    )
 }

@@ -10,10 +10,10 @@ ghost use Rattle.std.specs.Prelude.{◌≤◌, length};
 mod own;
 
 use crate::own::enter_lines;
-use libc::{STDIN_FILENO, STDOUT_FILENO};
 use phrase_lookup::phrase_text;
 use phrases::{Book, Found};
 use printed::{front, put_labelled, put_pairs};
+use std::io;
 
 // The check of a book. This and the functions below fill the line, and answer where it ends, without LF.
 fn check(line: &mut [u8], s: &[u8], at: usize) -> usize {
@@ -147,26 +147,27 @@ fn behind(s: &[u8], kind: usize, at: usize) -> usize {
 }
 
 // All cases, up to the end of what was read.
-fn cases(s: &[u8], line: &mut [u8]) {
+fn cases(rt: &impl Print, s: &[u8], line: &mut [u8]) -> io::Result<()> {
     let mut at = 0;
     while at < s.len() {
         let kind = vectors::number(s, at);
         let first = vectors::past(at, 4);
         let end = case(line, s, kind, first);
         let end = text_out::put_byte(line, end, b'\n');
-        io::write_all(STDOUT_FILENO, front(line, end));
+        rt.write_all(front(line, end))?;
         let next = behind(s, kind, first);
         if next <= at {
-            return;
+            break;
         }
         at = next;
     }
+    Ok(())
 }
 
 // The longest line has 129 bytes. A longer one than the buffer would be cut off, and differ.
-fn main() {
+fn main(rt: HostRuntime) -> io::Result<()> {
     let mut input = vectors::cases_space();
-    let mut line = io::large_buffer();
-    let count = io::read_full(STDIN_FILENO, &mut input);
-    cases(&input[..count], &mut line);
+    let mut line = [0; 65536];
+    let count = vectors::read_full(&mut rt.stdin(), &mut input);
+    cases(&rt, &input[..count], &mut line)
 }

@@ -2,30 +2,31 @@
 // examples, every cause, every limit of a guide, and random guides. model/README.md has the format.
 #![tactic(auto)]
 
-use libc::{STDIN_FILENO, STDOUT_FILENO};
+use std::io;
 
 // What is printed for a guide.
-fn print(guide: &[u8]) {
+fn print(rt: &impl Print, guide: &[u8]) -> io::Result<()> {
     let mut out = [0; 340000];
     let length = show::show(guide, &mut out);
-    io::write_all(STDOUT_FILENO, &out[..length]);
+    rt.write_all(&out[..length])
 }
 
 // All guides, up to the end of what was read.
-fn guides(s: &[u8]) {
+fn guides(rt: &impl Print, s: &[u8]) -> io::Result<()> {
     let mut at = 0;
     while at < s.len() {
-        print(vectors::slice(s, at));
+        print(rt, vectors::slice(s, at))?;
         let next = vectors::past_slice(s, at);
         if next <= at {
-            return;
+            break;
         }
         at = next;
     }
+    Ok(())
 }
 
-fn main() {
+fn main(rt: HostRuntime) -> io::Result<()> {
     let mut input = vectors::cases_space();
-    let count = io::read_full(STDIN_FILENO, &mut input);
-    guides(&input[..count]);
+    let count = vectors::read_full(&mut rt.stdin(), &mut input);
+    guides(&rt, &input[..count])
 }

@@ -4,8 +4,8 @@
 #![tactic(auto)]
 
 use decimals::{Constant, Natural};
-use libc::{STDIN_FILENO, STDOUT_FILENO};
 use printed::front;
+use std::io;
 
 // Y or N.
 fn letter(yes: bool) -> u8 {
@@ -161,26 +161,27 @@ fn behind(s: &[u8], kind: usize, at: usize) -> usize {
 }
 
 // All cases, up to the end of what was read.
-fn cases(s: &[u8], space: &mut [u8], line: &mut [u8]) {
+fn cases(rt: &impl Print, s: &[u8], space: &mut [u8], line: &mut [u8]) -> io::Result<()> {
     let mut at = 0;
     while at < s.len() {
         let kind = vectors::number(s, at);
         let first = vectors::past(at, 4);
         let end = case(line, s, kind, first, space);
-        io::write_all(STDOUT_FILENO, front(line, end));
+        rt.write_all(front(line, end))?;
         let next = behind(s, kind, first);
         if next <= at {
-            return;
+            break;
         }
         at = next;
     }
+    Ok(())
 }
 
 // The longest line has 150 bytes. A longer one than the buffer would be cut off, and differ.
-fn main() {
+fn main(rt: HostRuntime) -> io::Result<()> {
     let mut input = vectors::cases_space();
-    let mut space = io::buffer();
-    let mut line = io::large_buffer();
-    let count = io::read_full(STDIN_FILENO, &mut input);
-    cases(&input[..count], &mut space, &mut line);
+    let mut space = [0; 4096];
+    let mut line = [0; 65536];
+    let count = vectors::read_full(&mut rt.stdin(), &mut input);
+    cases(&rt, &input[..count], &mut space, &mut line)
 }

@@ -1,12 +1,9 @@
 -- `cases` is safe and ends: each turn goes on in the input, or is the last.
-use borrow.Author.Rules.{rules}
-use Prim.Native.Nat.{◌-◌}
-use mathlib.Core.Path.{◌≡◌}
-use lib.ListN.{length}
+use Rattle.std.specs.Prelude.{◌-◌, ◌≡◌, length}
 use Rattle.vectors_bits.proofs.cases.Given as goal
 
 abbrev pub invariant-loop-at : goal.invariant-loop-at
-invariant-loop-at l = (length l.space ≡ length l.initial.space) × (length l.line ≡ length l.initial.line)
+invariant-loop-at g l = (length l.line ≡ length l.initial.line) × (length l.space ≡ length l.initial.space)
 
 abbrev pub decreases-loop-at : goal.decreases-loop-at
-decreases-loop-at l = length l.s - l.at
+decreases-loop-at g l = length l.s - l.at

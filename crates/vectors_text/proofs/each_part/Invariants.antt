@@ -1,5 +1,4 @@
 -- `each_part` is safe and ends: it goes through the parts.
-use borrow.Author.Rules.{rules}
 use Prim.Native.Nat.{◌-◌}
 use mathlib.Core.Path.{◌≡◌}
 use lib.ListN.{length}

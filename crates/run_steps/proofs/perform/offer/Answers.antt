@@ -36,3 +36,5 @@ loop-end-smaller c = omega (arith, c.loop-end.invariant.0)
 pub returns-else-t-clause-steps_bound : goal.returns-else-t-clause-steps_bound
 unfolding headed performed laid left_by machine_state over_by place_at
 returns-else-t-clause-steps_bound c = search rules
+
+

@@ -1,8 +1,6 @@
 -- `fill` meets its contract: the bytes before the place are those of the content, and the length stays.
 use borrow.Author.Rules.{rules}
-use Prim.Native.Nat.{◌-◌, ◌≤◌}
-use mathlib.Core.Path.{◌≡◌, ap, ◌∙◌}
-use lib.ListN.{length, take}
+use mathlib.Core.Path.{ap, ◌∙◌}
 use Rattle.vectors.specs.Lent.{content}
 use Rattle.vectors.proofs.Content.{content-more, content-all}
 use Rattle.vectors.proofs.buffer.fill.Goals as goal

@@ -3,7 +3,6 @@ use native.Mathlib.Omega.{arith}
 use borrow.Author.Tests.{le-leb, lt-leb}
 use Rattle.output.proofs.Pour.{then}
 use Rattle.vectors.specs.Sums.{buffer_text}
-use borrow.Author.Rules.{rules}
 use Rattle.vectors.proofs.buffer.put_buffer.Goals as goal
 
 pub returns-then-bytes-le64 : goal.returns-then-bytes-le64

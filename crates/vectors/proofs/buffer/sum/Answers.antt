@@ -1,10 +1,7 @@
 -- `sum` meets its contract: the sum so far is that of the bytes before the place, and stays below the modulus.
 use borrow.Author.Rules.{rules}
-use Prim.Native.Nat.{◌-◌, ◌<◌}
 use native.Mathlib.Omega.{arith}
 use native.Mathlib.Nat.{mod-lt}
-use mathlib.Core.Path.{◌≡◌}
-use lib.ListN.{length, take}
 use lib.Seq.{take_all}
 use Rattle.vectors.specs.Sums.{sum_of}
 use Rattle.vectors.proofs.Checksums.{sum_more, sum_room}
@@ -13,16 +10,11 @@ use Rattle.vectors.proofs.buffer.sum.Goals as goal
 pub overflow_mul-sum : goal.overflow_mul-sum
 overflow_mul-sum c = record { fits = omega (arith, sum_room c.args.factor _ _ c.loop-i.invariant.1) }
 
-pub overflow_cast-sum : goal.overflow_cast-sum
-overflow_cast-sum c = omega (arith, c.shared_slice_known-1.given c.loop-i.i)
-
 pub overflow_add-sum : goal.overflow_add-sum
-overflow_add-sum c =
-    record { fits = omega (arith, sum_room c.args.factor _ _ c.loop-i.invariant.1, c.shared_slice_known-1.given c.loop-i.i) }
+overflow_add-sum c = let room = sum_room c.args.factor _ _ c.loop-i.invariant.1 in search rules
 
 pub overflow_add-sum-in-loop-i : goal.overflow_add-sum-in-loop-i
-overflow_add-sum-in-loop-i c =
-    record { fits = omega (arith, sum_room c.args.factor _ _ c.loop-i.invariant.1, c.shared_slice_known-1.given c.loop-i.i) }
+overflow_add-sum-in-loop-i c = let room = sum_room c.args.factor _ _ c.loop-i.invariant.1 in search rules
 
 pub loop-i-preserved : goal.loop-i-preserved
 loop-i-preserved c =

@@ -1,13 +1,8 @@
 -- `sum` meets its contract: the sum so far is that of the bytes before the place, and stays below the modulus.
-use borrow.Author.Rules.{rules}
 use Prim.Native.Nat.{◌-◌, ◌<◌}
-use native.Mathlib.Omega.{arith}
-use native.Mathlib.Nat.{mod-lt}
 use mathlib.Core.Path.{◌≡◌}
 use lib.ListN.{length, take}
-use lib.Seq.{take_all}
 use Rattle.vectors.specs.Sums.{sum_of}
-use Rattle.vectors.proofs.Checksums.{sum_more, sum_room}
 use Rattle.vectors.proofs.buffer.sum.Given as goal
 
 abbrev pub invariant-loop-i : goal.invariant-loop-i

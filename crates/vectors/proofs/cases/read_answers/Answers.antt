@@ -1,13 +1,10 @@
 -- `read_answers` meets its contract: as many answers are stored as are counted, within the space.
 use borrow.Author.Rules.{rules}
 use Rattle.vectors.proofs.Fronts.{front}
-use Prim.Native.Nat.{◌-◌, ◌≤◌}
-use mathlib.Core.Path.{◌≡◌}
-use lib.ListN.{length}
 use Rattle.vectors.proofs.cases.read_answers.Goals as goal
 
 pub returns-then-space-i : goal.returns-then-space-i
-returns-then-space-i c = front _ _ (search rules)
+returns-then-space-i g c = front _ _ (search rules)
 
 pub returns : goal.returns
-returns c = front _ _ (search rules)
+returns g c = front _ _ (search rules)

@@ -1,13 +1,9 @@
 -- `read_answers` meets its contract: as many answers are stored as are counted, within the space.
-use borrow.Author.Rules.{rules}
-use Rattle.vectors.proofs.Fronts.{front}
-use Prim.Native.Nat.{◌-◌, ◌≤◌}
-use mathlib.Core.Path.{◌≡◌}
-use lib.ListN.{length}
+use Rattle.std.specs.Prelude.{◌-◌, ◌≤◌, ◌≡◌, length}
 use Rattle.vectors.proofs.cases.read_answers.Given as goal
 
 abbrev pub invariant-loop-i : goal.invariant-loop-i
-invariant-loop-i l = (length l.space ≡ length l.initial.space) × (l.i ≤ length l.initial.space)
+invariant-loop-i g l = (length l.space ≡ length l.initial.space) × (l.i ≤ length l.initial.space)
 
 abbrev pub decreases-loop-i : goal.decreases-loop-i
-decreases-loop-i l = l.count - l.i
+decreases-loop-i g l = l.count - l.i

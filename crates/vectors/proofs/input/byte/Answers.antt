@@ -1,7 +1,6 @@
 -- `byte` meets its contract: past the end is 0.
 use mathlib.Core.Path.{sym}
 use lib.ListN.{get_or-eq_default}
-use borrow.Author.Rules.{rules}
 use Rattle.vectors.proofs.input.byte.Goals as goal
 
 pub returns-else-at-s : goal.returns-else-at-s

@@ -1,6 +1,5 @@
 -- `long_number` meets its contract: the two numbers, each by its place.
 use Rattle.vectors.proofs.Places.{long-numbers}
-use borrow.Author.Rules.{rules}
 use Rattle.vectors.proofs.input.long_number.Goals as goal
 
 pub returns : goal.returns

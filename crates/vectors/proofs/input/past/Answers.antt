@@ -1,5 +1,4 @@
 -- `past` meets its contract: the sum, or the greatest number where the sum is greater.
-use borrow.Author.Rules.{rules}
 use native.Mathlib.Omega.{arith}
 use Rattle.vectors.proofs.input.past.Goals as goal
 

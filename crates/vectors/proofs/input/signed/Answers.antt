@@ -2,7 +2,6 @@
 use mathlib.Core.Path.{ap, ◌∙◌}
 use Rattle.vectors.specs.Input.{signed_of}
 use Rattle.vectors.proofs.Signs.{signed-plain, signed_below}
-use borrow.Author.Rules.{rules}
 use Rattle.vectors.proofs.input.signed.Goals as goal
 
 pub returns-then-n-lt2147483648 : goal.returns-then-n-lt2147483648

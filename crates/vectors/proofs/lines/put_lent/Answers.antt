@@ -2,7 +2,6 @@
 use native.Mathlib.Omega.{arith}
 use Rattle.output.proofs.Pour.{then}
 use Rattle.vectors.specs.Lines.{lent_end}
-use borrow.Author.Rules.{rules}
 use Rattle.vectors.proofs.lines.put_lent.Goals as goal
 
 pub returns : goal.returns

@@ -2,7 +2,6 @@
 use native.Mathlib.Omega.{arith}
 use Rattle.output.proofs.Pour.{then}
 use Rattle.vectors.specs.Lines.{ran_line}
-use borrow.Author.Rules.{rules}
 use Rattle.vectors.proofs.lines.put_ran.Goals as goal
 
 pub returns : goal.returns

@@ -1,5 +1,4 @@
 -- `put_ran_values` meets its contract, for each answer.
-use borrow.Author.Rules.{rules}
 use Rattle.vectors.proofs.lines.put_ran_values.Goals as goal
 
 pub returns-in-Done : goal.returns-in-Done

@@ -1,7 +1,6 @@
--- `put_refused` meets its contract: the place is written behind the cause's number.
+-- `put_refused` meets its contract: the number and the place are written one behind the other.
 use native.Mathlib.Omega.{arith}
 use Rattle.output.proofs.Pour.{then}
-use borrow.Author.Rules.{rules}
 use Rattle.vectors.proofs.lines.put_refused.Goals as goal
 
 pub returns : goal.returns

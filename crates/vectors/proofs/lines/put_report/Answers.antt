@@ -1,7 +1,6 @@
 -- `put_report` meets its contract: the five values are written one behind the other.
 use native.Mathlib.Omega.{arith}
 use Rattle.output.proofs.Pour.{then}
-use borrow.Author.Rules.{rules}
 use Rattle.vectors.proofs.lines.put_report.Goals as goal
 
 pub returns : goal.returns

@@ -2,7 +2,6 @@
 use native.Mathlib.Omega.{arith}
 use Rattle.output.proofs.Pour.{then}
 use Rattle.vectors.specs.Lines.{written_line}
-use borrow.Author.Rules.{rules}
 use Rattle.vectors.proofs.lines.put_written.Goals as goal
 
 pub returns : goal.returns

@@ -1,5 +1,4 @@
 -- `put_written_values` meets its contract, for each answer.
-use borrow.Author.Rules.{rules}
 use Rattle.vectors.proofs.lines.put_written_values.Goals as goal
 
 pub returns-in-Done : goal.returns-in-Done

@@ -1,9 +1,8 @@
 -- `enter_lines` meets its contract: the k lines before a have their numbers.
-use Prim.Native.Nat.{◌-◌}
 use mathlib.Core.Path.{ap, ◌∙◌}
 use lib.ListN.{length}
 use borrow.Author.Rules.{rules}
-use Rattle.vectors_phrases.proofs.OwnLines.{Lines, lines_none, place-there, lines_more}
+use Rattle.vectors_phrases.proofs.OwnLines.{lines_none, place-there, lines_more}
 use Rattle.vectors_phrases.proofs.own.enter_lines.Goals as goal
 
 pub loop-k-init : goal.loop-k-init
@@ -24,6 +23,10 @@ returns-then-k-ge64 c = (c.loop-k.invariant.indexed, c.loop-k.invariant.numbers)
 pub enter_at-requires : goal.enter_at-requires
 enter_at-requires c = place-there c.loop-k.invariant c.requires.1 (search rules)
 
+pub loop-k-preserved : goal.loop-k-preserved
+loop-k-preserved c =
+    let there = place-there c.loop-k.invariant c.requires.1 (search rules) in
+    lines_more c.loop-k.invariant (search rules) c.find-e.ensures.value _ c.part-text.ensures there _ (c.enter_at.ensures.start_lt_own_places c.if-enter_at.true) (c.enter_at.ensures.index_after c.if-enter_at.true)
 
 pub shape_of-index-else-enter_at : goal.shape_of-index-else-enter_at
 shape_of-index-else-enter_at c = ap length (c.enter_at.ensures.index_unchanged c.if-enter_at.false) ∙ c.loop-k.invariant.size

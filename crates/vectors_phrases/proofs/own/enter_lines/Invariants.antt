@@ -1,9 +1,6 @@
 -- `enter_lines` meets its contract: the k lines before a have their numbers.
 use Prim.Native.Nat.{◌-◌}
-use mathlib.Core.Path.{ap, ◌∙◌}
-use lib.ListN.{length}
-use borrow.Author.Rules.{rules}
-use Rattle.vectors_phrases.proofs.OwnLines.{Lines, lines_none, place-there, lines_more}
+use Rattle.vectors_phrases.proofs.OwnLines.{Lines}
 use Rattle.vectors_phrases.proofs.own.enter_lines.Given as goal
 
 abbrev pub invariant-loop-k : goal.invariant-loop-k

@@ -1,11 +1,4 @@
 -- `meet` meets its contract: an instruction passed over, or performed.
-use Rattle.run_steps.specs.Meets.{over_by}
-use Rattle.transcript.specs.Machine.{machine_state}
-use Rattle.run_steps.specs.Meets.{left_by}
-use Rattle.transcript.specs.Machine.{laid}
-use Rattle.transcript.specs.Machine.{performed}
-use Rattle.fields.specs.Places.{place_at}
-use Rattle.plate.specs.Plate.{instruction}
 use Prim.Native.Nat.{◌≤◌, ◌<◌}
 use mathlib.Core.Path.{◌∙◌}
 use native.Mathlib.Omega.{arith}
@@ -27,3 +20,11 @@ pub perform_head-requires : goal.perform_head-requires
 perform_head-requires c =
     (c.requires.0, c.accepted_head-head.ensures.head_fits, known_same (c.accepted_head-head.ensures.result_value _ _ c.requires.1) c.requires.1, search rules)
 
+pub returns : goal.returns
+returns c =
+    let none : c.args.over ≤ 0 = omega arith in
+    let e = c.accepted_head-head.ensures.result_value _ _ c.requires.1 in
+    let out = rw e at c.perform_head.ensures.out_after in
+    let over = rw e at c.perform_head.ensures.over_value in
+    let next = rw e at c.perform_head.ensures.next_value in
+    record { out_after = lay-none _ _ _ _ _ _ out none; over_value = (over_none _ _ _ _ over.0 none, omega (arith, over.1)); next_value = next }

@@ -1,9 +1,4 @@
 -- `offer` meets its contract: at each turn of the loop what is left to do is the question with so many wrong answers.
-use Rattle.fields.specs.Places.{place_at}
-use Rattle.run_steps.specs.Meets.{over_by}
-use Rattle.run_steps.specs.Meets.{left_by}
-use Rattle.transcript.specs.Machine.{performed}
-use Rattle.instructions.specs.Heads.{headed}
 use native.Mathlib.Omega.{arith}
 use native.Mathlib.Numerals.{add-one}
 use borrow.Author.Rules.{rules}
@@ -31,10 +26,15 @@ choose-t-requires c = (c.requires.1, omega (arith, c.requires.3, c.loop-end.inva
 pub loop-end-smaller : goal.loop-end-smaller
 loop-end-smaller c = omega (arith, c.loop-end.invariant.0)
 
+pub loop-end-preserved : goal.loop-end-preserved
+loop-end-preserved c =
+    let again = sym c.choose-t.ensures.again_value.0 ∙ c.if-t.true in
+    let l = lay-again _ _ _ _ _ _ _ _ _ _ _ _ _ _ _ c.put_choices-line.ensures.out_after c.choose-t.ensures.out_after c.put_choices-line.ensures.offers.1 (omega (arith, c.well_formed, c.loop-end.invariant.2)) (omega (arith, c.well_formed, c.loop-end.invariant.2)) again in
+    (omega (arith, l.1), omega (arith, c.choose-t.ensures.again_value.1, c.loop-end.invariant.1), search rules, rw add-one (l.0 ∙ c.loop-end.invariant.3))
 
-
-pub returns-else-t-clause-steps_bound : goal.returns-else-t-clause-steps_bound
-unfolding headed performed laid left_by machine_state over_by place_at
-returns-else-t-clause-steps_bound c = search rules
-
-
+pub returns-else-t : goal.returns-else-t
+unfolding perform
+returns-else-t c =
+    let last = sym c.choose-t.ensures.again_value.0 ∙ c.if-t.false in
+    let l = lay-left _ _ _ _ _ _ _ _ _ _ _ _ _ _ _ c.put_choices-line.ensures.out_after c.choose-t.ensures.out_after c.put_choices-line.ensures.offers.1 (omega (arith, c.well_formed, c.loop-end.invariant.2)) (omega (arith, c.well_formed, c.loop-end.invariant.2)) last in
+    record { out_after = lay-statement c.put_choices-line.ensures.offers.0 _ _ _ _ (l ∙ c.loop-end.invariant.3); steps_bound = (λ s. over-statement c.put_choices-line.ensures.offers.0 s, omega (arith, c.choose-t.ensures.again_value.1, c.loop-end.invariant.0, c.loop-end.invariant.1)); next_value = c.put_choices-line.ensures.next_value }

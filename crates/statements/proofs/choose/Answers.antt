@@ -9,7 +9,6 @@ use Rattle.statements.proofs.Answers.{lay-chosen, lay-wrong, lay-outside, lay-un
 use borrow.Author.Rules.{rules}
 use Rattle.statements.proofs.choose.Goals as goal
 
-
 pub returns-then-is_option : goal.returns-then-is_option
 returns-then-is_option c = let l = lay-chosen _ _ _ _ _ _ _ _ c.args.wrong c.if-taken-answers.true c.take_answer-left.ensures.out_after ((let a = c.args in
     sym (simp (to_z-of_z {w = w32} {z = get_or a.answers.now a.m.taken (pos 0)} (record { sfits = c.is_option-arg-1.given })) at c.is_option.ensures)) ∙ c.if-is_option.true) in record { out_after = l.0; again_value = (l.1, search rules) }

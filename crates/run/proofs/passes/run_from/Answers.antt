@@ -25,3 +25,8 @@ loop-left-preserved c = let f = following _ _ _ _ _ _ c.loop-left.invariant.0 _ 
 
 pub returns : goal.returns
 returns c = lay_done _ _ _ _ _ _ c.loop-left.invariant.0 _ _ _ _ _ c.loop-left.invariant.2 (omega arith) (omega arith) ∙ c.loop-left.invariant.1
+
+pub returns-in_default : goal.returns-in_default
+returns-in_default c =
+    let f = following _ _ _ _ _ _ c.loop-left.invariant.0 _ (search rules) c.meet-met.ensures.next_value in
+    lay-stopped _ _ _ _ _ _ _ _ _ c.meet-met.ensures.out_after _ _ f.split c.in_default.not-End ∙ c.loop-left.invariant.1

@@ -3,14 +3,31 @@
 // 333,593 bytes.
 #![tactic(auto)]
 
+ghost use Rattle.std.specs.Prelude.{◌≤◌, length, IfOk};
+
 use std::io;
 use std::io::Read;
 
 // One byte more than a guide may have.
-const GUIDE: u64 = 16385;
+const GUIDE: usize = 16385;
 
 // More than is ever printed.
 const OUTPUT: usize = 340000;
+
+// Reads until the space is full or the input ends, and answers how many bytes were read.
+fn read_full<R: Read>(from: &mut R, space: &mut [u8]) -> io::Result<usize>
+    ensures { IfOk result (λ n. n ≤ length space.new) }
+{
+    let mut done = 0;
+    while done < space.len() {
+        let more = from.read(&mut space[done..])?;
+        if more == 0 {
+            return Ok(done);
+        }
+        done += more;
+    }
+    Ok(done)
+}
 
 // What is printed for a guide.
 fn print(rt: &impl Print, guide: &[u8]) -> io::Result<()> {
@@ -20,7 +37,7 @@ fn print(rt: &impl Print, guide: &[u8]) -> io::Result<()> {
 }
 
 fn main(rt: HostRuntime) -> io::Result<()> {
-    let mut guide = Vec::new(rt.alloc());
-    rt.stdin().take(GUIDE).read_to_end(&mut guide)?;
-    print(&rt, guide.as_slice())
+    let mut guide = [0; GUIDE];
+    let length = read_full(&mut rt.stdin(), &mut guide)?;
+    print(&rt, &guide[..length])
 }

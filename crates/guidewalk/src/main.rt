@@ -57,7 +57,7 @@ fn walk_on(rt: &HostRuntime, guide: &[u8]) -> io::Result<()> {
 }
 
 fn main(rt: HostRuntime) -> io::Result<()> {
-    if !tools::has_argument(&rt, 2) {
+    if tools::argument_count(&rt, 3) < 3 {
         return eprintln!(rt;
             "usage: guidewalk GUIDE BOOK ANSWER.. (a file - is standard input; /dev/null is an empty book)"
         );

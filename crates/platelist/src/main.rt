@@ -30,7 +30,7 @@ fn print(rt: &HostRuntime, plate: &[u8], book: &[u8]) -> io::Result<()> {
 }
 
 fn main(rt: HostRuntime) -> io::Result<()> {
-    if !tools::has_argument(&rt, 2) || tools::has_argument(&rt, 3) {
+    if tools::argument_count(&rt, 4) != 3 {
         return eprintln!(rt;
             "usage: platelist PLATE BOOK (a file - is standard input; /dev/null is an empty book)"
         );

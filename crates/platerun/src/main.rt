@@ -58,7 +58,7 @@ fn run_on(rt: &HostRuntime, plate: &[u8]) -> io::Result<()> {
 }
 
 fn main(rt: HostRuntime) -> io::Result<()> {
-    if !tools::has_argument(&rt, 2) {
+    if tools::argument_count(&rt, 3) < 3 {
         return eprintln!(rt;
             "usage: platerun PLATE BOOK ANSWER.. (a file - is standard input; /dev/null is an empty book)"
         );

@@ -1,16 +1,27 @@
 // Answers from the arguments.
-ghost use Rattle.std.specs.Prelude.{◌≡◌, take};
+ghost use Rattle.std.specs.Prelude.{◌≡◌, ◌≤◌, take};
 ghost use Rattle.tools.specs.Inputs.{Within};
 
-use crate::Input;
-use crate::telling::tell_number;
+use crate::{Input, tell_number};
 use decimals::Constant;
 use printed::front;
 use std::env::{Env, FillError};
 
 // Whether there is an argument i. Argument 0 is the program's name.
-pub fn has_argument(rt: &impl Env, i: usize) -> bool {
+fn has_argument(rt: &impl Env, i: usize) -> bool {
     !matches!(rt.arg(i, &mut []), Err(FillError::NotPresent))
+}
+
+// How many arguments there are, the program's name among them, as far as `most`. No contract can say what the arguments are.
+pub fn argument_count(rt: &impl Env, most: usize) -> usize
+    ensures { result ≤ most }
+{
+    for i in 0..most {
+        if !has_argument(rt, i) {
+            return i;
+        }
+    }
+    most
 }
 
 // The answers from argument `from` on, by the number rules of a guide's constants. Those that have no room are read too, and left out.

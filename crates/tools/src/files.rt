@@ -2,8 +2,7 @@
 ghost use Rattle.std.specs.Prelude.{◌≡◌};
 ghost use Rattle.tools.specs.Inputs.{Within};
 
-use crate::Input;
-use crate::telling::{tell_error, tell_number};
+use crate::{Input, tell_error, tell_number};
 use printed::front;
 use std::env::{Env, FillError};
 use std::fs::File;

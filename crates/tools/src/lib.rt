@@ -6,11 +6,13 @@
 mod answers;
 mod files;
 mod spaces;
-mod telling;
 
-pub use answers::{first_answers, has_argument, read_answers};
+pub use answers::{argument_count, first_answers, read_answers};
 pub use files::{read_file, read_plate};
+use printed::front;
 pub use spaces::transcript_space;
+use std::io::{Cursor, Error, Print, Write};
+use std::str;
 
 // How many bytes of a book are enough. A good book has at most 256 lines of 65 bytes, 16,640. Of a longer one the first bad line starts
 // behind at most 256 good ones, so that it has a byte within the first 16,641: it stands there whole, and is as bad, or it is cut off,
@@ -33,4 +35,38 @@ pub const ANSWERS: usize = 1536;
 pub enum Input {
     Holds(usize),
     Unread,
+}
+
+// Lines to standard error. Where standard error takes none, nothing can be told.
+// Bytes to standard error.
+fn tell(rt: &HostRuntime, bytes: &[u8]) {
+    let _ = Print::write_all(&rt.stderr(), bytes);
+}
+
+// A line with a number in it.
+fn tell_number(rt: &HostRuntime, first: &str, n: usize, last: &str) {
+    let _ = eprintln!(rt; "{first}{n}{last}");
+}
+
+// What cannot be read, by its name, and why, in the system's words.
+fn tell_error(rt: &HostRuntime, name: &[u8], error: &Error) {
+    let mut words = Cursor::new([0; 256]);
+    let _ = write!(words, "{error}");
+    let length = words.position();
+    let text = words.into_inner();
+    tell(rt, name);
+    tell(rt, b": ");
+    tell(rt, system_words(front(&text, length as usize)).as_bytes());
+    tell(rt, b"\n");
+}
+
+// The system's words for an error, without its number behind them.
+fn system_words(error: &[u8]) -> &str {
+    let Ok(text) = str::from_utf8(error) else {
+        return "";
+    };
+    match text.rsplit_once(" (os error ") {
+        Some((words, _)) => words,
+        None => text,
+    }
 }

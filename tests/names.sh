@@ -9,7 +9,7 @@
 #   crate/label       a must-fail edit; the names in the cells behind it are the crate's
 #   crate::function   a function of the crate; in the README of model/ or harness/, of tests/crate.rs or src/crate.rs there
 #   a path, or a file's name with its ending: from the top, from the document's folder or its src/, or below crates/
-# Left out: docs/LANDINGS.md and docs/PORT.md, which give names of before; target/ and out/; words in capitals, as NAME.edit.
+# Left out: docs/LANDINGS.md, docs/PORT.md and docs/DESIGN-PASS.md, which give names of before; target/ and out/; words in capitals, as NAME.edit.
 set -u
 cd "$(dirname "$0")/.." || exit 2
 list=$(mktemp) || exit 2
@@ -17,7 +17,7 @@ trap 'rm -f "$list"' EXIT
 
 find . \( -name target -o -name out -o -name .git \) -prune -o -print | sed 's|^\./||' | LC_ALL=C sort >"$list"
 sources=$(grep -E '^crates/.*\.(antt|rt)$|^(model|harness)/.*\.rs$' "$list")
-documents=$(grep -E '^(docs/[^/]*|README|(examples|examples/c|harness|model)/README)\.md$' "$list" | grep -vE '^docs/(LANDINGS|PORT)\.')
+documents=$(grep -E '^(docs/[^/]*|README|(examples|examples/c|harness|model)/README)\.md$' "$list" | grep -vE '^docs/(LANDINGS|PORT|DESIGN-PASS)\.')
 
 # shellcheck disable=SC2086
 LC_ALL=C awk -f tests/names.awk kind=crates crates.txt kind=files "$list" kind=source $sources kind=document $documents

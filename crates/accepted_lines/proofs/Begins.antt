@@ -5,6 +5,8 @@ use mathlib.Core.Path.{◌≡◌, refl, sym, ap, ◌∙◌}
 use mathlib.Core.List.{List, []}
 use mathlib.Core.Bool.{Bool, true, cond, false≢true}
 use lib.ListN.{length, take, get_or}
+use Rattle.std.specs.Prelude.{Some, option_map}
+use Rattle.std.proofs.lemmas.Option.{same_Some}
 use lib.Dec.{eqb}
 use borrow.Author.Tests.{ne_eqb}
 use Rattle.text.specs.Parts.{split, join, comma, parts_from, until_byte, same}
@@ -45,11 +47,11 @@ kind_by b t =
 
 -- the line s begins with the word w of a kind
 pub record Begins (s w : List ℕ) : Type 0 where
-  pub told : kind_by (get_or s 1 0) (eqb (get_or s 5 0) comma) ≡ kind_of w
+  pub told : Some (kind_by (get_or s 1 0) (eqb (get_or s 5 0) comma)) ≡ kind_of w
   pub two : 1 < length s
   pub six-r : get_or s 1 0 ≡ 114 → 5 < length s
   pub six-n : get_or s 1 0 ≡ 110 → 5 < length s
-  pub fields : fields_at (kind_of w) ≡ length w + 1
+  pub fields : option_map fields_at (kind_of w) ≡ Some (length w + 1)
   pub end : length w ≡ until_byte comma s
   pub front : w ≡ take (length w) s
 
@@ -83,23 +85,23 @@ pub begins : (s : List ℕ) → CleanLine s → Begins s (get_or (split comma s)
 begins s (form, v) = rw (join-split comma s) at (read-begins (line-read-as form s) v)
 
 -- the kind by the second byte, where it tells it
-pub kind-two : (s w : List ℕ) (b : ℕ) → Begins s w → get_or s 1 0 ≡ b → kind_by b (eqb (get_or s 5 0) comma) ≡ kind_of w
-kind-two s w b h e = ap (λ b. kind_by b (eqb (get_or s 5 0) comma)) (sym e) ∙ h.told
+pub kind-two : (s w : List ℕ) (b : ℕ) → Begins s w → get_or s 1 0 ≡ b → Some (kind_by b (eqb (get_or s 5 0) comma)) ≡ kind_of w
+kind-two s w b h e = ap (λ b. Some (kind_by b (eqb (get_or s 5 0) comma))) (sym e) ∙ h.told
 
 -- by the sixth byte too
-pub kind-six : (s w : List ℕ) (b : ℕ) {t : Bool} → Begins s w → get_or s 1 0 ≡ b → eqb (get_or s 5 0) comma ≡ t → kind_by b t ≡ kind_of w
-kind-six s w b h e f = ap (kind_by b) (sym f) ∙ kind-two s w b h e
+pub kind-six : (s w : List ℕ) (b : ℕ) {t : Bool} → Begins s w → get_or s 1 0 ≡ b → eqb (get_or s 5 0) comma ≡ t → Some (kind_by b t) ≡ kind_of w
+kind-six s w b h e f = ap (λ t. Some (kind_by b t)) (sym f) ∙ kind-two s w b h e
 
 -- by any other second byte
 pub kind-goto : (s w : List ℕ) → Begins s w → (get_or s 1 0 ≡ 104 → ⊥) → (get_or s 1 0 ≡ 114 → ⊥) → (get_or s 1 0 ≡ 110 → ⊥)
-    → (get_or s 1 0 ≡ 102 → ⊥) → (get_or s 1 0 ≡ 108 → ⊥) → (get_or s 1 0 ≡ 105 → ⊥) → Goto ≡ kind_of w
+    → (get_or s 1 0 ≡ 102 → ⊥) → (get_or s 1 0 ≡ 108 → ⊥) → (get_or s 1 0 ≡ 105 → ⊥) → Some Goto ≡ kind_of w
 kind-goto s w h a b c d e f =
     simp (ne_eqb _ _ a, ne_eqb _ _ b, ne_eqb _ _ c, ne_eqb _ _ d, ne_eqb _ _ e, ne_eqb _ _ f) at h.told
 
 -- a line by its kind, whose fields begin behind the kind's word
-pub line-by-word : (form : Form) (s : List ℕ) (k : Kind) (a : ℕ) → is_clean (line_of form s) ≡ true → k ≡ kind_of (get_or (split comma s) 0 [])
+pub line-by-word : (form : Form) (s : List ℕ) (k : Kind) (a : ℕ) → is_clean (line_of form s) ≡ true → Some k ≡ kind_of (get_or (split comma s) 0 [])
     → a ≡ fields_at k → line_of form s ≡ line_of_kind form k (parts_from comma a s)
 line-by-word form s k a v e f =
     let b = begins s (form, v) in
-    let n : a ≡ length (get_or (split comma s) 0 []) + 1 = f ∙ ap fields_at e ∙ b.fields in
-    rw n (line-of-kind form s _ k _ (bytes-clean form s v) (omega (arith, b.end)) b.front e)
+    let n : a ≡ length (get_or (split comma s) 0 []) + 1 = f ∙ same_Some _ _ (ap (option_map fields_at) e ∙ b.fields) in
+    rw n (line-of-kind form s _ (Some k) _ (bytes-clean form s v) (omega (arith, b.end)) b.front e)

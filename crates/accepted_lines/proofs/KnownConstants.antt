@@ -4,7 +4,8 @@ use native.Mathlib.Omega.{arith}
 use native.Mathlib.Numerals.{sub-one}
 use mathlib.Core.Path.{◌≡◌, refl, sym, ◌∙◌}
 use mathlib.Core.List.{List, [], ◌∷◌}
-use mathlib.Core.Option.{Option, none, some, none-ne-some}
+use Rattle.std.specs.Prelude.{Option, None, Some}
+use Rattle.std.proofs.lemmas.Option.{none-some}
 use lib.ListN.{length, drop, get_or}
 use lib.IntN.{ℤ, pos, negsuc}
 use borrow.Author.Tests.{eq-eqb}
@@ -15,19 +16,19 @@ use Rattle.decimals.proofs.Signs.{constant-plain}
 use Rattle.accepted_lines.proofs.KnownFields.{byte-first, byte-rest}
 use Rattle.accepted_lines.proofs.KnownLines.{NumberAt, known-number, field-there}
 
-negative-some : (o : Option ℕ) (z : ℤ) → negative o ≡ some z → (m : ℕ) × (o ≡ some (suc m)) × (z ≡ negsuc m)
-negative-some none z e = absurd (none-ne-some z e)
-negative-some (some zero) z e = absurd (none-ne-some z e)
-negative-some (some (suc m)) z e = (m, refl, cc)
+negative-some : (o : Option ℕ) (z : ℤ) → negative o ≡ Some z → (m : ℕ) × (o ≡ Some (suc m)) × (z ≡ negsuc m)
+negative-some None z e = absurd (none-some z e)
+negative-some (Some zero) z e = absurd (none-some z e)
+negative-some (Some (suc m)) z e = (m, refl, cc)
 
-positive-some : (o : Option ℕ) (z : ℤ) → positive o ≡ some z → (n : ℕ) × (o ≡ some n) × (z ≡ pos n)
-positive-some none z e = absurd (none-ne-some z e)
-positive-some (some n) z e = (n, refl, cc)
+positive-some : (o : Option ℕ) (z : ℤ) → positive o ≡ Some z → (n : ℕ) × (o ≡ Some n) × (z ≡ pos n)
+positive-some None z e = absurd (none-some z e)
+positive-some (Some n) z e = (n, refl, cc)
 
-module _ (s : List ℕ) (a : ℕ) (z : ℤ) (e : constant (get_or (parts_from comma a s) 0 []) ≡ some z) where
+module _ (s : List ℕ) (a : ℕ) (z : ℤ) (e : constant (get_or (parts_from comma a s) 0 []) ≡ Some z) where
   filled : get_or (parts_from comma a s) 0 [] ≡ [] → ⊥
   unfolding constant
-  filled n = none-ne-some z (rw n at e)
+  filled n = none-some z (rw n at e)
 
   pub constant-there : a < length s
   constant-there = (field-there s a filled).0
@@ -44,7 +45,7 @@ module _ (s : List ℕ) (a : ℕ) (z : ℤ) (e : constant (get_or (parts_from co
   known-below m =
       let n : get_or s a 0 ≡ comma → ⊥ = λ c. omega arith in
       let f = byte-first s a constant-there n in
-      let c : negative (natural 2147483648 (get_or (parts_from comma (a + 1) s) 0 [])) ≡ some z = rw (f, eq-eqb (get_or s a 0) minus m) at e in
+      let c : negative (natural 2147483648 (get_or (parts_from comma (a + 1) s) 0 [])) ≡ Some z = rw (f, eq-eqb (get_or s a 0) minus m) at e in
       let k = negative-some (natural 2147483648 (get_or (parts_from comma (a + 1) s) 0 [])) z c in
       let d = known-number 2147483648 s (a + 1) (suc k.0) (omega arith) k.1 in
       let v : value_from 0 (get_or (parts_from comma (a + 1) s) 0 []) ≡ suc k.0 = cc (d.reads, k.1) in

@@ -4,7 +4,8 @@ use native.Mathlib.Omega.{arith}
 use mathlib.Core.Path.{◌≡◌, refl, sym, ap, ◌∙◌}
 use mathlib.Core.List.{List, [], ◌∷◌}
 use mathlib.Core.Bool.{Bool, true, false, cond, ◌&&◌, false≢true}
-use mathlib.Core.Option.{Option, none, some, bind, none-ne-some}
+use Rattle.std.specs.Prelude.{Option, None, Some}
+use Rattle.std.proofs.lemmas.Option.{none-some}
 use lib.ListN.{length, drop, get_or}
 use lib.Dec.{leb}
 use lib.IntN.{ℤ}
@@ -29,9 +30,9 @@ abbrev Is : Line → Type 0
 Is l = is_clean l ≡ true
 
 module _ {A : Type 0} where
-  given-some : (o : Option A) (f : A → Line) → Is (given o f) → (v : A) × (o ≡ some v) × Is (f v)
-  given-some none f c = absurd (false≢true c)
-  given-some (some v) f c = (v, refl, c)
+  given-some : (o : Option A) (f : A → Line) → Is (given o f) → (v : A) × (o ≡ Some v) × Is (f v)
+  given-some None f c = absurd (false≢true c)
+  given-some (Some v) f c = (v, refl, c)
 
 pub input-known : (fs : List (List ℕ)) → Is (input_line fs) → HasValue register fs × (2 ≤ length fs)
 input-known [] c = absurd (false≢true c)
@@ -93,10 +94,10 @@ if-known Listing (r ∷ o ∷ c ∷ k ∷ []) v =
 if-known Listing (r ∷ o ∷ c ∷ k ∷ u ∷ fs) v = absurd (false≢true v)
 
 -- the test of the first three fields
-pub test-of : (fs : List (List ℕ)) {r : ℕ} {o : Op} {c : ℤ} → register (get_or fs 0 []) ≡ some r → operator (get_or (drop 1 fs) 0 []) ≡ some o
-    → constant (get_or (drop 1 (drop 1 fs)) 0 []) ≡ some c
-    → test_of (get_or fs 0 []) (get_or fs 1 []) (get_or fs 2 []) ≡ some (record { register = r; op = o; constant = c })
-unfolding test_of bind
+pub test-of : (fs : List (List ℕ)) {r : ℕ} {o : Op} {c : ℤ} → register (get_or fs 0 []) ≡ Some r → operator (get_or (drop 1 fs) 0 []) ≡ Some o
+    → constant (get_or (drop 1 (drop 1 fs)) 0 []) ≡ Some c
+    → test_of (get_or fs 0 []) (get_or fs 1 []) (get_or fs 2 []) ≡ Some (record { register = r; op = o; constant = c })
+unfolding test_of
 test-of [] x y z = rw (x, y, z)
 test-of (r ∷ []) x y z = rw (x, y, z)
 test-of (r ∷ o ∷ []) x y z = rw (x, y, z)
@@ -119,34 +120,34 @@ field-there s a n = go (first s a (fields-there s a (λ e. n (nothing (parts_fro
 
     go : First s a (parts_from comma a s) → (a < length s) × (get_or (get_or (parts_from comma a s) 0 []) 0 0 ≡ get_or s a 0)
     go f =
-        let some : f.size ≡ 0 → ⊥ = λ z. n (empty (get_or (parts_from comma a s) 0 []) (f.long ∙ z)) in
+        let filled : f.size ≡ 0 → ⊥ = λ z. n (empty (get_or (parts_from comma a s) 0 []) (f.long ∙ z)) in
         let z : a + 0 ≡ a = omega arith in
         (omega (arith, f.ends), rw z at (f.byte 0 (omega arith)))
 
-natural-some : (limit : ℕ) (f : List ℕ) (n : ℕ) → natural limit f ≡ some n
+natural-some : (limit : ℕ) (f : List ℕ) (n : ℕ) → natural limit f ≡ Some n
     → (all is_digit f ≡ true) × (value_from 0 f ≤ limit) × (value_from 0 f ≡ n)
 unfolding natural
 natural-some limit f n e = go (is_natural f && leb (value_from 0 f) limit) refl e
   where
-    go : (b : Bool) → (is_natural f && leb (value_from 0 f) limit) ≡ b → cond b (some (value_from 0 f)) none ≡ some n
+    go : (b : Bool) → (is_natural f && leb (value_from 0 f) limit) ≡ b → cond b (Some (value_from 0 f)) None ≡ Some n
         → (all is_digit f ≡ true) × (value_from 0 f ≤ limit) × (value_from 0 f ≡ n)
     go true t q =
         let k = and_parts (is_natural f) (leb (value_from 0 f) limit) t in
         (natural-digits f k.0, leb-true (value_from 0 f) limit k.1, cc)
-    go false t q = absurd (none-ne-some n q)
+    go false t q = absurd (none-some n q)
 
 -- digits of the line from a on
 pub record NumberAt (limit : ℕ) (s : List ℕ) (a : ℕ) : Type 0 where
   pub digits : HasDigits (parts_from comma a s)
   pub there : a ≤ length s
-  pub reads : natural limit (get_or (parts_from comma a s) 0 []) ≡ some (value_from 0 (get_or (parts_from comma a s) 0 []))
+  pub reads : natural limit (get_or (parts_from comma a s) 0 []) ≡ Some (value_from 0 (get_or (parts_from comma a s) 0 []))
 
-pub known-number : (limit : ℕ) (s : List ℕ) (a n : ℕ) → limit ≤ 2147483648 → natural limit (get_or (parts_from comma a s) 0 []) ≡ some n
+pub known-number : (limit : ℕ) (s : List ℕ) (a n : ℕ) → limit ≤ 2147483648 → natural limit (get_or (parts_from comma a s) 0 []) ≡ Some n
     → NumberAt limit s a
 known-number limit s a n h e =
     let k = natural-some limit (get_or (parts_from comma a s) 0 []) n e in
-    let t = field-there s a (λ z. none-ne-some n (sym (natural-none limit (get_or (parts_from comma a s) 0 []) (ap length z)) ∙ e)) in
-    record { digits = (k.0, omega (arith, k.1)); there = omega (arith, t.0); reads = e ∙ ap some (sym k.2) }
+    let t = field-there s a (λ z. none-some n (sym (natural-none limit (get_or (parts_from comma a s) 0 []) (ap length z)) ∙ e)) in
+    record { digits = (k.0, omega (arith, k.1)); there = omega (arith, t.0); reads = e ∙ ap Some (sym k.2) }
 
 pub fourth : (fs : List (List ℕ)) → get_or (drop 1 (drop 1 (drop 1 fs))) 0 [] ≡ get_or fs 3 []
 fourth [] = refl

@@ -1,11 +1,13 @@
 -- The bytes of a register, of an operator and of a number that are known to be right.
-use Prim.Native.Nat.{ℕ, ◌+◌, ◌*◌, ◌-◌, ◌/◌, ◌%◌, ◌≤◌, ◌<◌}
+use Prim.Native.Nat.{ℕ, zero, suc, ◌+◌, ◌*◌, ◌-◌, ◌/◌, ◌%◌, ◌≤◌, ◌<◌}
 use native.Mathlib.Omega.{arith}
 use mathlib.Core.Path.{◌≡◌, refl, sym, ap, ◌∙◌}
 use mathlib.Core.List.{List, [], ◌∷◌, ◌++◌}
 use mathlib.Core.Bool.{Bool, true, false, cond}
-use mathlib.Core.Option.{Option, some}
+use Rattle.std.specs.Prelude.{Option, Some}
 use lib.ListN.{length, drop, get_or, length-drop}
+use lib.Seq.{drop-cons}
+use native.Mathlib.Numerals.{add-one}
 use lib.Dec.{eqb, ltb}
 use borrow.Author.Tests.{ltb-true, ltb-false, ne_eqb}
 use Rattle.text.specs.Quoted.{bytes}
@@ -17,7 +19,7 @@ use Rattle.transcript.specs.declared.Op.{Op}
 use Rattle.transcript.specs.declared.Op.TheVariants.{Eq, Ne, Lt, Le, Gt, Ge}
 use Rattle.lines.specs.Line.{operator}
 use Rattle.lines.proofs.FieldPlaces.{fields-there}
-use Rattle.accepted_lines.proofs.KnownFields.{First, first, byte-first, byte-rest}
+use Rattle.accepted_lines.proofs.KnownFields.{First, first}
 
 -- fields are there where their number is not 0
 some-there : (s : List ℕ) (a : ℕ) → 2 ≤ length (parts_from comma a s) → a ≤ length s
@@ -55,7 +57,7 @@ module _ (s : List ℕ) (a : ℕ) (fs : List (List ℕ)) (n : ℕ) (f : First s 
       let r = rw (size, x) at f.next in
       record { there = omega arith; low = omega arith; single = λ d. absurd (omega arith); double = λ d. (omega arith, omega arith, r) }
 
-  register-at : register (get_or fs 0 []) ≡ some n → RegisterAt s a fs n
+  register-at : register (get_or fs 0 []) ≡ Some n → RegisterAt s a fs n
   register-at e = go (ltb n 10) refl (natural-written 31 (get_or fs 0 []) n e)
     where
       go : (t : Bool) → ltb n 10 ≡ t → (decimalℕ n ≡ get_or fs 0 []) × (n ≤ 31) → RegisterAt s a fs n
@@ -64,7 +66,7 @@ module _ (s : List ℕ) (a : ℕ) (fs : List (List ℕ)) (n : ℕ) (f : First s 
           let k : 10 ≤ n = ltb-false n 10 t in
           two_digits k l (sym w ∙ decimalℕ-more n k ∙ ap (λ l. l ++ ((48 + n % 10) ∷ [])) (decimalℕ-one (n / 10) (omega arith)))
 
-pub known-register : (s : List ℕ) (a n : ℕ) → register (get_or (parts_from comma a s) 0 []) ≡ some n → 2 ≤ length (parts_from comma a s)
+pub known-register : (s : List ℕ) (a n : ℕ) → register (get_or (parts_from comma a s) 0 []) ≡ Some n → 2 ≤ length (parts_from comma a s)
     → RegisterAt s a (parts_from comma a s) n
 known-register s a n e h = register-at s a (parts_from comma a s) n (first s a (some-there s a h)) h e
 
@@ -81,7 +83,7 @@ op_by b t = cond (eqb b 101) Eq (cond (eqb b 110) Ne (cond (eqb b 108) (cond t L
 abbrev TwoLetters : List ℕ → Op → Type 0
 TwoLetters o op = (op_by (get_or o 0 0) (eqb (get_or o 1 0) 116) ≡ op) × (length o ≡ 2)
 
-operator-letters : (o : List ℕ) (op : Op) → operator o ≡ some op → TwoLetters o op
+operator-letters : (o : List ℕ) (op : Op) → operator o ≡ Some op → TwoLetters o op
 unfolding operator
 operator-letters o op e =
     word (bytes "eq") Eq _ (refl, refl)
@@ -92,11 +94,11 @@ operator-letters o op e =
     (word (bytes "ge") Ge _ (refl, refl) (λ q. let z : ◌≡◌ {A = ℕ} 0 1 = cc in absurd (omega arith)))))))
     e
   where
-    word : (w : List ℕ) (p : Op) (rest : Option Op) → TwoLetters w p → (rest ≡ some op → TwoLetters o op)
-        → cond (same o w) (some p) rest ≡ some op → TwoLetters o op
+    word : (w : List ℕ) (p : Op) (rest : Option Op) → TwoLetters w p → (rest ≡ Some op → TwoLetters o op)
+        → cond (same o w) (Some p) rest ≡ Some op → TwoLetters o op
     word w p rest h k q = go (same o w) refl q
       where
-        go : (b : Bool) → same o w ≡ b → cond b (some p) rest ≡ some op → TwoLetters o op
+        go : (b : Bool) → same o w ≡ b → cond b (Some p) rest ≡ Some op → TwoLetters o op
         go true t r = let v : p ≡ op = cc in rw (same-equal o w t, ← v) h
         go false t r = k r
 
@@ -105,7 +107,7 @@ pub record OperatorAt (s : List ℕ) (a : ℕ) (fs : List (List ℕ)) (op : Op) 
   pub told : op_by (get_or s a 0) (eqb (get_or s (a + 1) 0) 116) ≡ op
   pub next : parts_from comma (a + 3) s ≡ drop 1 fs
 
-pub known-operator : (s : List ℕ) (a : ℕ) (op : Op) → operator (get_or (parts_from comma a s) 0 []) ≡ some op
+pub known-operator : (s : List ℕ) (a : ℕ) (op : Op) → operator (get_or (parts_from comma a s) 0 []) ≡ Some op
     → 2 ≤ length (parts_from comma a s) → OperatorAt s a (parts_from comma a s) op
 known-operator s a op e h =
     let f = first s a (some-there s a h) in
@@ -132,38 +134,21 @@ module _ {s : List ℕ} {a : ℕ} {fs : List (List ℕ)} {op : Op} (k : Operator
 
 -- ---- digits
 
-value_grows : (n : ℕ) (s : List ℕ) → n ≤ value_from n s
+pub value_grows : (n : ℕ) (s : List ℕ) → n ≤ value_from n s
 unfolding value_from
 value_grows n [] = omega arith
 value_grows n (b ∷ s) = let l = value_grows (n * 10 + (b - 48)) s in omega arith
 
--- the digits from a up to i have this value, and those from i on are still to be read
-pub record Reading (s : List ℕ) (a value i : ℕ) : Type 0 where
-  pub whole : value_from 0 (get_or (parts_from comma a s) 0 []) ≡ value_from value (get_or (parts_from comma i s) 0 [])
-  pub digits : all is_digit (get_or (parts_from comma i s) 0 []) ≡ true
-  pub rest : drop 1 (parts_from comma i s) ≡ drop 1 (parts_from comma a s)
-  pub most : value_from value (get_or (parts_from comma i s) 0 []) ≤ 2147483648
+-- one digit of digits more
+module _ (p : List ℕ) (value i : ℕ) (d : all is_digit p ≡ true) (h : i < length p) where
+  pub digit-at : (48 ≤ get_or p i 0) × (get_or p i 0 ≤ 57)
+  digit-at = go p i d h
+    where
+      go : (p : List ℕ) (i : ℕ) → all is_digit p ≡ true → i < length p → (48 ≤ get_or p i 0) × (get_or p i 0 ≤ 57)
+      go [] i d h = absurd (omega arith)
+      go (b ∷ p) zero d h = digit-bounds b (all_first is_digit b p d)
+      go (b ∷ p) (suc i) d h = go p i (all_rest is_digit b p d) (omega arith)
 
-pub reading-below : {s : List ℕ} {a value i : ℕ} → Reading s a value i → value ≤ 2147483648
-reading-below {s} {a} {value} {i} r = omega (arith, r.most, value_grows value (get_or (parts_from comma i s) 0 []))
-
-module _ (s : List ℕ) (a value i : ℕ) (h : i < length s) (n : get_or s i 0 ≡ comma → ⊥) (r : Reading s a value i) where
-  pub reading-digit : (48 ≤ get_or s i 0) × (get_or s i 0 ≤ 57)
-  reading-digit = digit-bounds (get_or s i 0) (all_first is_digit (get_or s i 0) _ (rw (byte-first s i h n) at r.digits))
-
-  pub reading-turn : Reading s a (value * 10 + (get_or s i 0 - 48)) (i + 1)
+  pub value-next : value_from value (drop i p) ≡ value_from (value * 10 + (get_or p i 0 - 48)) (drop (i + 1) p)
   unfolding value_from
-  reading-turn =
-      let f = byte-first s i h n in
-      record {
-        whole = rw f at r.whole;
-        digits = all_rest is_digit (get_or s i 0) _ (rw f at r.digits);
-        rest = sym (byte-rest s i h n) ∙ r.rest;
-        most = rw f at r.most;
-      }
-
--- the digits end
-pub reading-ends : {s : List ℕ} {a value i : ℕ} {gs : List (List ℕ)} → Reading s a value i → parts_from comma i s ≡ [] ∷ gs
-    → (value ≡ value_from 0 (get_or (parts_from comma a s) 0 [])) × (gs ≡ drop 1 (parts_from comma a s))
-unfolding value_from
-reading-ends r e = (sym (rw e at r.whole), rw e at r.rest)
+  value-next = rw (drop-cons p i 0 h, add-one)

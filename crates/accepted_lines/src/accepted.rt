@@ -7,14 +7,13 @@ ghost use Rattle.lines.specs.Answers.{head_of};
 ghost use Rattle.lines.specs.Clean.{is_clean, CleanLine};
 
 use crate::values::{known_constant, known_number, known_operator, known_register};
-use causes::Cause;
 use lines::{Form, Head, Kind};
 use transcript::Test;
 
 // The kind of such a line: its second byte tells it, and the sixth where two words begin alike.
 pub fn accepted_kind(s: &[u8]) -> Kind
     requires { CleanLine s.now }
-    ensures { result ≡ kind_of (get_or (split comma s.now) 0 []) }
+    ensures { Some result ≡ kind_of (get_or (split comma s.now) 0 []) }
 {
     match s[1] {
         b'h' => Kind::Phrase,
@@ -40,23 +39,18 @@ fn fields_at(kind: Kind) -> usize
     ensures { result ≡ fields_at kind }
 {
     match kind {
-        Kind::Phrase => 7,
-        Kind::Input => 6,
-        Kind::Inputs => 7,
-        Kind::Print => 6,
+        Kind::If | Kind::Fi => 3,
+        Kind::Else | Kind::Goto => 5,
+        Kind::Input | Kind::Print => 6,
+        Kind::Phrase | Kind::Inputs => 7,
         Kind::Printex => 8,
-        Kind::If => 3,
-        Kind::Else => 5,
-        Kind::Fi => 3,
-        Kind::Goto => 5,
-        Kind::Unknown => 1,
     }
 }
 
 // The head of such a line.
 pub fn accepted_line(form: Form, s: &[u8]) -> Head
     requires { is_clean (line.line_of form s.now) ≡ true }
-    ensures { result ≡ head_of (line.line_of form s.now) }
+    ensures { Ok result ≡ head_of (line.line_of form s.now) }
 {
     let kind = accepted_kind(s);
     accepted_fields(form, kind, s, fields_at(kind))
@@ -65,7 +59,7 @@ pub fn accepted_line(form: Form, s: &[u8]) -> Head
 // A line of this kind, whose fields behind the kind begin at a.
 fn accepted_fields(form: Form, kind: Kind, s: &[u8], a: usize) -> Head
     requires { is_clean (line_of_kind form kind (parts_from comma a s.now)) ≡ true }
-    ensures { result ≡ head_of (line_of_kind form kind (parts_from comma a s.now)) }
+    ensures { Ok result ≡ head_of (line_of_kind form kind (parts_from comma a s.now)) }
 {
     match kind {
         Kind::Phrase => Head::Phrase,
@@ -77,27 +71,26 @@ fn accepted_fields(form: Form, kind: Kind, s: &[u8], a: usize) -> Head
         Kind::Else => Head::Else,
         Kind::Fi => Head::Fi,
         Kind::Goto => accepted_goto(form, s, a),
-        Kind::Unknown => Head::Faulty { cause: Cause::Kind },
     }
 }
 
 // `input,R,TEXT`.
 fn accepted_input(s: &[u8], a: usize) -> Head
     requires { is_clean (line.input_line (parts_from comma a s.now)) ≡ true }
-    ensures { result ≡ head_of (line.input_line (parts_from comma a s.now)) }
+    ensures { Ok result ≡ head_of (line.input_line (parts_from comma a s.now)) }
 {
-    let r = known_register(s, a);
-    Head::Input { register: r.value }
+    Head::Input {
+        register: known_register(s, a).value,
+    }
 }
 
 // `inputs,R,TEXT,OPTION,..`.
 fn accepted_inputs(s: &[u8], a: usize) -> Head
     requires { is_clean (line.inputs_line (parts_from comma a s.now)) ≡ true }
-    ensures { result ≡ head_of (line.inputs_line (parts_from comma a s.now)) }
+    ensures { Ok result ≡ head_of (line.inputs_line (parts_from comma a s.now)) }
 {
-    let r = known_register(s, a);
     Head::Inputs {
-        register: r.value,
+        register: known_register(s, a).value,
         options: text_parts::count_parts(&s[a..], b',') - 2,
     }
 }
@@ -105,32 +98,31 @@ fn accepted_inputs(s: &[u8], a: usize) -> Head
 // A guide's `if,R,OP,C`; a listing's `if,R,OP,C,SKIP`.
 fn accepted_if(form: Form, s: &[u8], a: usize) -> Head
     requires { is_clean (line.if_fields form (parts_from comma a s.now)) ≡ true }
-    ensures { result ≡ head_of (line.if_fields form (parts_from comma a s.now)) }
+    ensures { Ok result ≡ head_of (line.if_fields form (parts_from comma a s.now)) }
 {
     let r = known_register(s, a);
-    let o = r.next;
-    let op = known_operator(s, o);
-    let c = known_constant(s, o + 3);
+    let op = known_operator(s, r.next);
+    let c = known_constant(s, r.next + 3);
     let test = Test {
         register: r.value,
         op,
         constant: c.value,
     };
-    if let Form::Guide = form {
-        return Head::If { test };
-    }
-    let k = known_number(s, c.next);
-    Head::IfSkip {
-        test,
-        skip: k.value,
+    match form {
+        Form::Guide => Head::If { test },
+        Form::Listing => Head::IfSkip {
+            test,
+            skip: known_number(s, c.next).value,
+        },
     }
 }
 
 // A listing's `goto,SKIP`.
 fn accepted_goto(form: Form, s: &[u8], a: usize) -> Head
     requires { is_clean (line.goto_fields form (parts_from comma a s.now)) ≡ true }
-    ensures { result ≡ head_of (line.goto_fields form (parts_from comma a s.now)) }
+    ensures { Ok result ≡ head_of (line.goto_fields form (parts_from comma a s.now)) }
 {
-    let k = known_number(s, a);
-    Head::Goto { skip: k.value }
+    Head::Goto {
+        skip: known_number(s, a).value,
+    }
 }

@@ -11,8 +11,7 @@ use borrow.Author.Tests.{lt-leb, leb-true, leb-false}
 use Rattle.causes.specs.Answers.{made, Answer, wrote, refusing, written_answer}
 use Rattle.causes.specs.declared.Cause.TheVariants.{TooShort}
 use Rattle.causes.specs.declared.Refusal.{Refusal}
-use Rattle.causes.specs.declared.Written.{Written}
-use Rattle.causes.specs.declared.Written.TheVariants.{Done, Refused}
+use Rattle.std.specs.Prelude.{Result, Ok, Err}
 use Rattle.causes.proofs.Lent.{written-front}
 use Rattle.walking.specs.Call.{walk_call}
 use Rattle.running.specs.Call.{scratch_numbers, ran, run_call}
@@ -52,20 +51,20 @@ module _ (guide book plate after : List ℕ) (n : ℕ) (wrote-n : translate_call
 
 -- ---- translate has answered w and left these bytes
 
-module _ (guide book plate after : List ℕ) (w : Written) (called : (written_answer w, after) ≡ translate_call guide book plate) where
-  done : (n : ℕ) → w ≡ Done n → translate_call guide book plate ≡ (wrote n, after)
+module _ (guide book plate after : List ℕ) (w : Result ℕ Refusal) (called : (written_answer w, after) ≡ translate_call guide book plate) where
+  done : (n : ℕ) → w ≡ Ok n → translate_call guide book plate ≡ (wrote n, after)
   done n e = rw e at (sym called)
 
-  pub plate-length : (n : ℕ) → w ≡ Done n → n ≤ length after
+  pub plate-length : (n : ℕ) → w ≡ Ok n → n ≤ length after
   plate-length n e = plate-fits guide book plate after n (done n e)
 
   module _ (answers : List ℤ) (scratch : ℕ) (transcript : List ℕ) where
-    pub run-after : (n : ℕ) → w ≡ Done n
+    pub run-after : (n : ℕ) → w ≡ Ok n
         → run_call (take n after) book answers scratch transcript ≡ translate_then_run guide book plate answers scratch transcript
     unfolding translate_then_run
     run-after n e = rw (done n e) (run-walks guide book plate after n (done n e) answers scratch transcript (leb scratch_numbers scratch) refl)
 
-    pub not-translated : (r : Refusal) → w ≡ Refused r
+    pub not-translated : (r : Refusal) → w ≡ Err r
         → (refusing r.cause r.place, transcript) ≡ translate_then_run guide book plate answers scratch transcript
     unfolding translate_then_run
     not-translated r e = rw (sym called, e)

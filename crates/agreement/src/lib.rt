@@ -30,8 +30,6 @@ pub fn translate_and_run(
     ensures by_index { (n : ℕ) → (translate_call guide.now book.now plate.old).0 ≡ wrote n → scratch_numbers ≤ length scratch.old → Agreement book.now guide.now (take n plate.new) answers.now (length scratch.old) transcript.old }
     ensures scratch_unchanged { scratch.new ≡ scratch.old }
 {
-    match translate::translate(guide, book, plate) {
-        Written::Refused(r) => Ran::Refused(r),
-        Written::Done(length) => run::run(&plate[..length], book, answers, scratch, transcript),
-    }
+    let length = translate::translate(guide, book, plate)?;
+    run::run(&plate[..length], book, answers, scratch, transcript)
 }

@@ -3,11 +3,12 @@ use Prim.Native.Nat.{ℕ, suc, ◌+◌, ◌≤◌}
 use native.Mathlib.Omega.{arith}
 use mathlib.Core.Path.{◌≡◌, ap}
 use mathlib.Core.List.{List, [], ◌∷◌}
+use Rattle.std.specs.Prelude.{Ok}
 use lib.ListN.{length, drop, get_or, length-append}
 use Rattle.text.specs.Text.{Text}
 use Rattle.phrases.specs.Lookup.{own_texts}
 use Rattle.lines.specs.declared.Form.{Form}
-use Rattle.lines.specs.declared.Checked.TheVariants.{Fine}
+use Rattle.lines.specs.declared.Counts.{Counts}
 use Rattle.lines.specs.Line.{Line, phrase, says, if_line, else_line, fi_line, goto_line, if_skip_line, faulty}
 use Rattle.lines.specs.Check.{Seen, nothing_seen, next, most_bytes, lines_of}
 use Rattle.lines.specs.Answers.{seen_in, checked_answer}
@@ -41,14 +42,14 @@ lines-counted book n s last ks (l ∷ ls) p =
 
 -- ---- an accepted text
 
-module _ (form : Form) (book : List Text) (text : List ℕ) {own n : ℕ} (c : checked_answer (seen_in form book text) ≡ Fine own n) where
-  abbrev holds : Accepts form book text (record { own = own_texts own text; lines = lines_of form text })
+module _ (form : Form) (book : List Text) (text : List ℕ) {k : Counts} (c : checked_answer (seen_in form book text) ≡ Ok k) where
+  abbrev holds : Accepts form book text (record { own = own_texts k.own text; lines = lines_of form text })
   holds = fine-accepts form book text c
 
   pub few_bytes : length text ≤ most_bytes form
   few_bytes = holds.size
 
-  pub accepted-counted : (skips : List ℕ) → Counted form skips text n
+  pub accepted-counted : (skips : List ℕ) → Counted form skips text k.instructions
   accepted-counted skips =
       record {
         clean = passes-clean book 1 nothing_seen holds.seen (lines_of form text) holds.passes;

@@ -4,6 +4,7 @@ use mathlib.Core.Path.{◌≡◌, refl, sym, ap, ◌∙◌}
 use mathlib.Core.List.{List, [], ◌∷◌, append-nil}
 use mathlib.Core.Bool.{Bool}
 use lib.ListN.{length}
+use Rattle.std.specs.Prelude.{Result, Ok, Err}
 use Rattle.output.specs.Pour.{poured}
 use Rattle.text.specs.Parts.{split, comma}
 use Rattle.text.specs.Text.{Text}
@@ -11,6 +12,7 @@ use Rattle.phrases.specs.Phrases.{Phrases}
 use Rattle.transcript.specs.declared.Test.{Test}
 use Rattle.transcript.specs.Statement.{input, inputs, print, printex}
 use Rattle.lines.specs.declared.Form.{Form}
+use Rattle.causes.specs.declared.Cause.{Cause}
 use Rattle.lines.specs.declared.Head.{Head}
 use Rattle.lines.specs.declared.Head.TheVariants as head
 use Rattle.lines.specs.Line.{Line, phrase, says, if_line, else_line, fi_line, goto_line, if_skip_line, faulty, line_of}
@@ -22,11 +24,25 @@ use Rattle.plate.specs.Writing.{instruction_bits, instructions_bits}
 use Rattle.writer.specs.Listing.{line_instruction, line_bits}
 use Rattle.assemble.specs.LineCode.{line_code, head_code, count_by, skip_by}
 
+-- ---- by what the head of a line is read as; a line that has a cause has none
+
+abbrev pub counted : Result Head Cause → ℕ
+counted (Ok h) = count_by h
+counted (Err c) = 0
+
+abbrev pub skipped : ℕ → Result Head Cause → ℕ
+skipped k (Ok h) = skip_by k h
+skipped k (Err c) = 0
+
+abbrev code_by : ℕ → Result Head Cause → List Text → List Instruction
+code_by k (Ok h) fs = head_code k h fs
+code_by k (Err c) fs = []
+
 -- ---- a line is no instruction, or one
 
 pub data Coded (k : ℕ) (l : Line) : Type 0 where
-  silent : line_code k l ≡ [] → count_by (head_of l) ≡ 0 → skip_by k (head_of l) ≡ 0 → Coded k l
-  one : (i : Instruction) → line_code k l ≡ i ∷ [] → count_by (head_of l) ≡ 1 → skip_by k (head_of l) ≡ skip_of i → Coded k l
+  silent : line_code k l ≡ [] → counted (head_of l) ≡ 0 → skipped k (head_of l) ≡ 0 → Coded k l
+  one : (i : Instruction) → line_code k l ≡ i ∷ [] → counted (head_of l) ≡ 1 → skipped k (head_of l) ≡ skip_of i → Coded k l
 
 pub coded : (k : ℕ) (l : Line) → Coded k l
 coded k (phrase t) = silent refl refl refl
@@ -41,16 +57,16 @@ coded k (goto_line j) = one (goto j) refl refl refl
 coded k (if_skip_line test j) = one (if_skip test j) refl refl refl
 coded k (faulty c) = silent refl refl refl
 
-pub line-count : (k : ℕ) (l : Line) → count_by (head_of l) ≡ length (line_code k l)
+pub line-count : (k : ℕ) (l : Line) → counted (head_of l) ≡ length (line_code k l)
 line-count k l = go (coded k l)
   where
-    go : Coded k l → count_by (head_of l) ≡ length (line_code k l)
+    go : Coded k l → counted (head_of l) ≡ length (line_code k l)
     go (silent e c s) = c ∙ ap length (sym e)
     go (one i e c s) = c ∙ ap length (sym e)
 
 -- ---- the instruction by the head is that of the line; the skip is the line's own, or k
 
-read-code : {form : Form} {fs : List Text} {l : Line} (k : ℕ) → ReadAs form fs l → head_code (skip_by k (head_of l)) (head_of l) fs ≡ line_code k l
+read-code : {form : Form} {fs : List Text} {l : Line} (k : ℕ) → ReadAs form fs l → code_by (skipped k (head_of l)) (head_of l) fs ≡ line_code k l
 read-code k (as-fault c) = refl
 read-code k (as-phrase t) = refl
 read-code k (as-input r t) = refl
@@ -63,9 +79,9 @@ read-code k as-fi = refl
 read-code k (as-goto j) = refl
 read-code k (as-if-skip r o c j) = refl
 
-pub head-code : (form : Form) (s : List ℕ) (k : ℕ) {j : ℕ} {d : Head} → d ≡ head_of (line_of form s) → j ≡ skip_by k d
+pub head-code : (form : Form) (s : List ℕ) (k : ℕ) {j : ℕ} {d : Head} → Ok d ≡ head_of (line_of form s) → j ≡ skip_by k d
     → head_code j d (split comma s) ≡ line_code k (line_of form s)
-head-code form s k e f = rw (f, e) (read-code k (line-read-as form s))
+head-code form s k e f = rw f (ap (λ r. code_by (skipped k r) r (split comma s)) e) ∙ read-code k (line-read-as form s)
 
 -- ---- what the code has written, by the head h
 
@@ -81,7 +97,6 @@ other-code k head.Else fs o p = absurd (p refl)
 other-code k head.Fi fs o p = refl
 other-code k (head.Goto j) fs o p = refl
 other-code k (head.IfSkip test j) fs o p = refl
-other-code k (head.Faulty c) fs o p = refl
 
 module _ (c : Phrases) (k : ℕ) (h : Head) (fs : List Text) (at : ℕ) (old : List Bool) (last : ℕ × List Bool) where
   one-put : (i : Instruction) → head_code k h fs ≡ i ∷ [] → last ≡ poured at (instruction_bits c i) old

@@ -4,6 +4,7 @@ use native.Mathlib.Omega.{arith}
 use native.Mathlib.Nat.{add-zero}
 use mathlib.Core.Path.{◌≡◌, refl, ap, ◌∙◌}
 use mathlib.Core.List.{List, [], ◌∷◌, ◌++◌, append_assoc}
+use Rattle.std.specs.Prelude.{Ok}
 use lib.ListN.{length, take, drop, get_or}
 use lib.Seq.{get_or-drop, drop-drop}
 use Rattle.text.specs.Parts.{split, comma, until_byte, LF}
@@ -17,7 +18,7 @@ use Rattle.plate.specs.Program.{Instruction}
 use Rattle.plate.specs.Writing.{instruction_bits, instructions_bits}
 use Rattle.assemble.specs.LineCode.{line_code, lines_code, head_code, count_by, skip_by}
 use Rattle.assemble.proofs.Ahead.{Ahead, lines_from, no_lines, first-line}
-use Rattle.assemble.proofs.HeadCode.{line-count, head-code}
+use Rattle.assemble.proofs.HeadCode.{counted, line-count, head-code}
 
 -- the instructions from the place a on, the first of which has the number i
 abbrev pub code_from : Form → List ℕ → List ℕ → ℕ → ℕ → List Instruction
@@ -45,18 +46,18 @@ module _ {form : Form} {s : List ℕ} {a e : ℕ} (g : Ahead form s a) (h : a < 
   abbrev line : Line
   line = line_of form (take (e - a) (drop a s))
 
-  pub next-code : code_from form ks s i a ≡ line_code (get_or ks i 0) line ++ code_from form ks s (i + count_by (head_of line)) (e + 1)
+  pub next-code : code_from form ks s i a ≡ line_code (get_or ks i 0) line ++ code_from form ks s (i + counted (head_of line)) (e + 1)
   unfolding lines_code
   next-code =
       let here : get_or (drop i ks) 0 0 ≡ get_or ks i 0 = get_or-drop i ks 0 0 ∙ ap (λ (n : ℕ). get_or ks n 0) (add-zero i) in
       ap (lines_code (drop i ks)) (first-line g h k l)
       ∙ ap (λ (j : ℕ). line_code j line ++ lines_code (drop (length (line_code j line)) (drop i ks)) (lines_from form s (e + 1))) here
-      ∙ rw (← line-count (get_or ks i 0) line, drop-drop (count_by (head_of line)) i ks)
+      ∙ rw (← line-count (get_or ks i 0) line, drop-drop (counted (head_of line)) i ks)
 
-  pub bits-next : (c : Phrases) {w j n : ℕ} {d : Head} → d ≡ head_of line → w ≡ get_or ks i 0 → j ≡ skip_by w d → n ≡ i + count_by d
+  pub bits-next : (c : Phrases) {w j n : ℕ} {d : Head} → Ok d ≡ head_of line → w ≡ get_or ks i 0 → j ≡ skip_by w d → n ≡ i + count_by d
       → instructions_bits c (code_from form ks s i a)
       ≡ instructions_bits c (head_code j d (split comma (take (e - a) (drop a s)))) ++ instructions_bits c (code_from form ks s n (e + 1))
   bits-next c z v f m =
       ap (instructions_bits c) next-code
-      ∙ bits-append c (line_code (get_or ks i 0) line) (code_from form ks s (i + count_by (head_of line)) (e + 1))
-      ∙ rw (head-code form (take (e - a) (drop a s)) (get_or ks i 0) z (rw v at f), m, z)
+      ∙ bits-append c (line_code (get_or ks i 0) line) (code_from form ks s (i + counted (head_of line)) (e + 1))
+      ∙ rw (head-code form (take (e - a) (drop a s)) (get_or ks i 0) z (rw v at f), m, ← z)

@@ -45,7 +45,6 @@ head_code k head.Else fs = goto k ∷ []
 head_code k head.Fi fs = line_instruction head.Fi fs
 head_code k (head.Goto j) fs = line_instruction (head.Goto j) fs
 head_code k (head.IfSkip test j) fs = line_instruction (head.IfSkip test j) fs
-head_code k (head.Faulty c) fs = line_instruction (head.Faulty c) fs
 
 -- how many instructions it is
 abbrev pub count_by : Head → ℕ
@@ -59,7 +58,6 @@ count_by head.Else = 1
 count_by head.Fi = 0
 count_by (head.Goto j) = 1
 count_by (head.IfSkip test j) = 1
-count_by (head.Faulty c) = 0
 
 -- its skip; 0 where it has none
 abbrev pub skip_by : ℕ → Head → ℕ
@@ -73,4 +71,3 @@ skip_by k head.Else = k
 skip_by k head.Fi = 0
 skip_by k (head.Goto j) = j
 skip_by k (head.IfSkip test j) = j
-skip_by k (head.Faulty c) = 0

@@ -8,42 +8,35 @@
 
 mod line;
 
-ghost use Rattle.std.specs.Prelude.{◌≡◌, ◌≤◌, length};
-ghost use Rattle.causes.specs.Limits.{most_plate_bytes};
+ghost use Rattle.std.specs.Prelude.{◌≡◌};
 ghost use Rattle.causes.specs.Answers.{written_answer};
 ghost use Rattle.phrases.specs.Lookup.{book_texts};
 ghost use Rattle.phrases.specs.Own.{Listed};
-ghost use Rattle.assemble.specs.LineCode.{program_in};
+ghost use Rattle.lines.specs.Check.{lines_of};
+ghost use Rattle.assemble.specs.LineCode.{lines_code, program_in};
 ghost use Rattle.assemble.specs.Assembled.{Counted, lent_program, Produced};
 
 use causes::limits::PLATE_BYTES;
 use causes::{Cause, Refusal, Written};
 use line::{count_of, put, skip_at, skip_of};
 use lines::Form;
+use phrase_lookup::Lookup;
 
-// How many bits a plate has, or the first line whose skip goes past the instructions behind it.
-#[derive(Clone, Copy)]
-pub enum Made {
-    Bits(usize),
-    Past(usize),
-}
-
-// The whole plate of an accepted text, as far as the buffer goes. The own phrases' lines come before the instructions' lines, so that the
+// The whole plate of an accepted text, whose own phrases are known, as far as the array goes: how many bits it has, or the first line whose skip goes past the
+// instructions behind it. The own phrases' lines come before the instructions' lines, so that the
 // line of an instruction follows from how many are left behind it.
 fn produce(
-    out: &mut [u8],
+    out: &mut [u8; PLATE_BYTES],
     form: Form,
     text: &[u8],
     skips: &[u16],
-    index: &[u32],
-    book: &[u8],
-    own: usize,
+    known: &Lookup,
     instructions: usize,
-) -> Made
-    requires { (length out.old ≤ most_plate_bytes) × Listed index.now book.now text.now own × Counted form skips.now text.now instructions }
-    ensures { Produced (book_texts book.now) own (program_in form skips.now text.now own) out.old result out.new }
+) -> Result<usize, Refusal>
+    requires { Counted form skips.now text.now instructions }
+    ensures { Produced known.now.book (record { own = known.now.own; instructions = lines_code skips.now (lines_of form text.now) }) out.old result out.new }
 {
-    let mut end = plate_room::put_front(out, text, own, instructions);
+    let mut end = plate_room::put_front(out, known, instructions);
     let mut left = instructions;
     let mut a = 0;
     while a < text.len() {
@@ -53,13 +46,16 @@ fn produce(
         let behind = left - count_of(head);
         let skip = skip_of(head, skip_at(skips, instructions - left));
         if behind < skip {
-            return Made::Past(own + instructions - behind);
+            return Err(Refusal {
+                cause: Cause::Skip,
+                place: known.own_count() + instructions - behind,
+            });
         }
-        end = put(out, end, head, line, skip, index, book, text, own);
+        end = put(out, end, head, line, skip, known);
         left = behind;
         a = e + 1;
     }
-    Made::Bits(plate_room::put_fill(out, end))
+    Ok(plate_room::put_fill(out, end))
 }
 
 // The plate of an accepted text, in a lent buffer. `own` and `instructions` are what the check counts.
@@ -77,20 +73,7 @@ pub fn write(
     ensures { (written_answer result, plate.new) ≡ lent_program (book_texts book.now) (program_in form skips.now text.now own) plate.old }
 {
     let mut array = [0u8; PLATE_BYTES];
-    match produce(
-        &mut array,
-        form,
-        text,
-        skips,
-        index,
-        book,
-        own,
-        instructions,
-    ) {
-        Made::Past(line) => Written::Refused(Refusal {
-            cause: Cause::Skip,
-            place: line,
-        }),
-        Made::Bits(bits) => plate_room::lend(&array, bits, plate),
-    }
+    let known = Lookup::new(index, book, text, own);
+    let bits = produce(&mut array, form, text, skips, &known, instructions)?;
+    plate_room::lend(&array, bits, plate)
 }

@@ -72,9 +72,3 @@ bits-of-pack bs = bits_of_bytes _ (filled bs) (sym (filled-whole bs))
 pub pack-of-bits : (bs : List Bool) (bytes : List ℕ) → ((i : ℕ) → get_or bytes i 0 < 256) → filled bs ≡ bytes_bits bytes → pack bs ≡ bytes
 unfolding pack
 pack-of-bits bs bytes h e = rw (e, length-bytes_bits bytes, mul-div_cancel (length bytes) {n = 8} (omega arith)) (bytes-of-bits bytes h)
-
-pub pack-of-bytes : (bytes : List ℕ) → ((i : ℕ) → get_or bytes i 0 < 256) → pack (bytes_bits bytes) ≡ bytes
-unfolding filled
-pack-of-bytes bytes h =
-    let none : (8 - length (bytes_bits bytes) % 8) % 8 ≡ 0 = omega (arith, length-bytes_bits bytes) in
-    pack-of-bits (bytes_bits bytes) bytes h (rw none (append-nil _))

@@ -10,23 +10,12 @@ use lib.ListN.{length, take, drop, get_or, length-drop, take-append-drop}
 use lib.Seq.{drop-drop, take-append-le, drop-append-le, take_all}
 use lib.Pow.{pow_pos, pow_mono}
 use Rattle.bits.specs.Bits.{bits_of, value_of, bytes_bits}
-use Rattle.bits.proofs.Numbers.{length-bits_of, value-of-bits, bits-of-first, first_below}
+use Rattle.bits.proofs.Numbers.{length-bits_of, value-of-bits, bits-of-first}
 use Rattle.bits.proofs.Bytes.{length-bytes_bits}
 use Rattle.bits.proofs.Fields.{field-value}
 use Rattle.bits.proofs.Turns.{bits-in-byte, value-cut}
 
--- four bytes are below 256 each
-abbrev pub FourBelow : List ℕ → ℕ → Type 0
-FourBelow bytes i = (get_or bytes i 0 < 256) × (get_or bytes (i + 1) 0 < 256) × (get_or bytes (i + 2) 0 < 256) × (get_or bytes (i + 3) 0 < 256)
-
-pub four_below : (bytes : List ℕ) (i : ℕ) → ((k : ℕ) → Fits w8 (get_or bytes k 0)) → FourBelow bytes i
-four_below bytes i h = ((h i).fits, (h (i + 1)).fits, (h (i + 2)).fits, (h (i + 3)).fits)
-
 module _ (bytes : List ℕ) (i : ℕ) (there : i + 3 < length bytes) where
-  -- four bytes
-  pub half-below : value_of (take 32 (drop (i * 8) (bytes_bits bytes))) < 4294967296
-  half-below = first_below 32 (drop (i * 8) (bytes_bits bytes)) (simp (length-drop, length-bytes_bits) (omega arith))
-
   module _ (b : (k : ℕ) → Fits w8 (get_or bytes k 0)) where
     -- k bytes, and one more behind them
     byte-behind : (k : ℕ) → k ≤ 3

@@ -6,20 +6,6 @@
 ghost use Rattle.std.specs.Prelude.{◌≡◌, ◌+◌, ◌-◌, ◌*◌, ◌^◌, ◌≤◌, ◌<◌, min, length, take, drop};
 ghost use Rattle.bits.specs.Bits.{value_of, bytes_bits};
 
-// What reading a number finds: the number, or that the plate ends inside it.
-#[derive(Clone, Copy)]
-pub enum Number {
-    Is(u32),
-    Ends,
-}
-
-// What reading 56 bits at once finds: their number, or that fewer than eight bytes are left.
-#[derive(Clone, Copy)]
-pub enum Wide {
-    Is(usize),
-    Short,
-}
-
 // A power of two.
 pub fn two_to(k: usize) -> usize
     requires { k ≤ 63 }
@@ -33,21 +19,21 @@ pub fn room(bytes: usize, at: usize, width: usize) -> usize
     requires { width ≤ 56 }
     ensures { result ≡ min width (bytes * 8 - at) }
 {
-    let first = at / 8;
-    if bytes <= first {
-        return 0;
-    }
-    output::least(width, output::least(bytes - first, 8) * 8 - at % 8)
+    let bits = bytes.saturating_sub(at / 8).min(8) * 8;
+    bits.saturating_sub(at % 8).min(width)
 }
 
-// The number that four bytes are, from a byte on. Nested so, it is compiled to one load.
+// The number that four bytes are, from a byte on.
 pub fn half_word(bytes: &[u8], index: usize) -> usize
     requires { index + 3 < length bytes.now }
     ensures { result ≡ value_of (take 32 (drop (index * 8) (bytes_bits bytes.now))) }
 {
-    let three = (bytes[index] as usize * 256 + bytes[index + 1] as usize) * 256
-        + bytes[index + 2] as usize;
-    three * 256 + bytes[index + 3] as usize
+    u32::from_be_bytes([
+        bytes[index],
+        bytes[index + 1],
+        bytes[index + 2],
+        bytes[index + 3],
+    ]) as usize
 }
 
 // The number that eight bytes are, from a byte on.
@@ -55,5 +41,14 @@ pub fn word(bytes: &[u8], index: usize) -> usize
     requires { index + 7 < length bytes.now }
     ensures { result ≡ value_of (take 64 (drop (index * 8) (bytes_bits bytes.now))) }
 {
-    half_word(bytes, index) * 4294967296 + half_word(bytes, index + 4)
+    usize::from_be_bytes([
+        bytes[index],
+        bytes[index + 1],
+        bytes[index + 2],
+        bytes[index + 3],
+        bytes[index + 4],
+        bytes[index + 5],
+        bytes[index + 6],
+        bytes[index + 7],
+    ])
 }

@@ -16,7 +16,7 @@ use Rattle.bits.specs.Ahead.{four_from, ahead_in, part_ahead}
 use Rattle.bits.proofs.Numbers.{length-bits_of, bits_of_value, bits-of-first}
 use Rattle.bits.proofs.Bytes.{length-bytes_bits, drop-bytes}
 use Rattle.bits.proofs.Fields.{field-value}
-use Rattle.bits.proofs.Words.{FourBelow, half-value}
+use Rattle.bits.proofs.Words.{half-value}
 
 -- n bytes from a byte on
 abbrev bytes_from : ℕ → List ℕ → ℕ → List ℕ
@@ -60,17 +60,17 @@ four-long : (bytes : List ℕ) (i : ℕ) → length (bytes_bits (four_from bytes
 four-long bytes i = length-bytes_bits (four_from bytes i)
 
 -- four bytes as one number, each below 256
-pub four-value : (bytes : List ℕ) (i : ℕ) → FourBelow bytes i
+pub four-value : (bytes : List ℕ) (i : ℕ) → ((k : ℕ) → Fits w8 (get_or bytes k 0))
     → ((get_or bytes i 0 * 256 + get_or bytes (i + 1) 0) * 256 + get_or bytes (i + 2) 0) * 256 + get_or bytes (i + 3) 0
     ≡ value_of (bytes_bits (four_from bytes i))
 four-value bytes i h =
     half-value (four_from bytes i) 0 (omega arith) below ∙ ap value_of (take_all 32 (bytes_bits (four_from bytes i)) (omega (arith, four-long bytes i)))
   where
     below : (k : ℕ) → Fits w8 (get_or (four_from bytes i) k 0)
-    below zero = record { fits = h.0 }
-    below (suc zero) = record { fits = h.1 }
-    below (suc (suc zero)) = record { fits = h.2 }
-    below (suc (suc (suc zero))) = record { fits = h.3 }
+    below zero = h i
+    below (suc zero) = h (i + 1)
+    below (suc (suc zero)) = h (i + 2)
+    below (suc (suc (suc zero))) = h (i + 3)
     below (suc (suc (suc (suc k)))) = record { fits = omega arith }
 
 -- where all four are there, they are those of the whole

@@ -1,39 +1,55 @@
 -- Writing bits into eight bytes, which are read and stored as one number.
-use Prim.Native.Nat.{ℕ, ◌+◌, ◌-◌, ◌*◌, ◌/◌, ◌%◌, ◌^◌, ◌≤◌, ◌<◌}
-use mathlib.Core.Path.{◌≡◌, sym, ap, ◌∙◌}
-use mathlib.Core.List.{List, ◌++◌, append-nil}
+use Prim.Native.Nat.{ℕ, ◌+◌, ◌*◌, ◌/◌, ◌%◌, ◌^◌, ◌≤◌, ◌<◌}
+use mathlib.Core.Path.{◌≡◌, refl, sym, ap, ◌∙◌}
+use mathlib.Core.List.{List, [], ◌∷◌, ◌++◌, append-nil, append_assoc}
 use mathlib.Core.Bool.{Bool}
-use native.Mathlib.Nat.{div-one}
 use native.Mathlib.Omega.{arith}
-use lib.ListN.{length, take, drop, set, length-drop, drop_of_length-le, take-append-drop}
+use lib.ListN.{length, take, drop, length-drop, take-append-drop}
 use lib.Seq.{length-take-le}
 use Rattle.output.specs.Pour.{pour}
-use Rattle.output.proofs.Pour.{pour-fits}
 use Rattle.output.proofs.Parts.{pour-behind, pour-before, pour-middle}
 use Rattle.bits.specs.Bits.{bits_of, value_of, bytes_bits}
 use Rattle.bits.proofs.Numbers.{length-bits_of, bits-of-first}
 use Rattle.bits.proofs.Bytes.{length-bytes_bits}
-use Rattle.bits.proofs.Fields.{low_bits}
-use Rattle.bits.proofs.Turns.{PartWritten, write-turn}
+use Rattle.bits.proofs.Fields.{low_bits, bits-split}
+use borrow.Rule.Slice.PartMut.{put_mid}
+use Rattle.std.specs.Int.{w64, to_be_bytes}
 
--- all bits of a byte replaced
-byte-whole : (x y old : ℕ) → bits_of 8 x ≡ bits_of 8 y → bits_of 8 x ≡ pour 0 (bits_of 8 y) (bits_of 8 old)
-byte-whole x y old e =
-    let new = length-bits_of 8 y in
-    let was = length-bits_of 8 old in
-    let all = pour-fits (bits_of 8 y) (bits_of 8 old) (omega arith) in
-    e ∙ sym (all ∙ ap (λ l. bits_of 8 y ++ l) (drop_of_length-le (bits_of 8 old) {i = length (bits_of 8 y)} (omega arith)) ∙ append-nil _)
+bytes-append : (xs ys : List ℕ) → bytes_bits (xs ++ ys) ≡ bytes_bits xs ++ bytes_bits ys
+unfolding bytes_bits
+bytes-append [] ys = refl
+bytes-append (x ∷ xs) ys =
+    ap (λ l. bits_of 8 x ++ l) (bytes-append xs ys) ∙ sym (append_assoc (bits_of 8 x) (bytes_bits xs) (bytes_bits ys))
 
--- the next byte of a number
-pub byte-turn : {old : List ℕ} {at width value : ℕ} {out : List ℕ} (i next left power b : ℕ)
-    → PartWritten old at width value out (i * 8 + 0) left → power ≡ 2 ^ (left - 8) → bits_of 8 b ≡ bits_of 8 (value / power)
-    → i < length out → 8 ≤ left → next ≡ i + 1 → PartWritten old at width value (set out i b) (next * 8 + 0) (left - 8)
-byte-turn i next left power b p e eb h l n =
-    write-turn i 0 left 8 power b _ p e (byte-whole _ _ _ eb) h (omega arith) l (omega arith)
+-- the next byte of a number, above its lowest l bits
+next-byte : (l power n : ℕ) → power ≡ 2 ^ l → {low : List Bool} → low ≡ bits_of l n → bits_of 8 (n / power % 256) ++ low ≡ bits_of (8 + l) n
+next-byte l power n e f = rw (e, f, low_bits 8 (n / 2 ^ l)) (sym (bits-split 8 l n))
 
--- the last byte
-pub byte_low : (word : ℕ) → bits_of 8 (word % 256) ≡ bits_of 8 (word / 1)
-byte_low word = low_bits 8 word ∙ ap (bits_of 8) (sym (div-one word))
+-- the bits of the eight bytes of a number
+word-bits : (n : ℕ) → bytes_bits (to_be_bytes w64 n) ≡ bits_of 64 n
+unfolding bytes_bits
+word-bits n =
+    next-byte 56 (256 ^ 7) n refl (next-byte 48 (256 ^ 6) n refl (next-byte 40 (256 ^ 5) n refl (next-byte 32 (256 ^ 4) n refl
+    (next-byte 24 (256 ^ 3) n refl (next-byte 16 (256 ^ 2) n refl (next-byte 8 256 n refl (append-nil _ ∙ low_bits 8 n)))))))
+
+-- these bytes in place of eight
+pub word-stored : (old : List ℕ) (i k word : ℕ) (new : List ℕ) → i + 7 < length old → k ≡ 8 → new ≡ to_be_bytes w64 word
+    → bytes_bits (put_mid i k old new) ≡ pour (i * 8) (bits_of 64 word) (bytes_bits old)
+word-stored old i k word new there ek en =
+    let front = take i old in
+    let behind = drop i old in
+    let mid = take 8 behind in
+    let rest = drop 8 behind in
+    let size : length front ≡ i = length-take-le i old (omega arith) in
+    let eight : length mid ≡ 8 = length-take-le 8 behind (omega (arith, length-drop i old)) in
+    let apart : old ≡ front ++ (mid ++ rest) = sym (ap (λ l. front ++ l) (take-append-drop 8 behind) ∙ take-append-drop i old) in
+    let was = ap bytes_bits apart ∙ bytes-append front (mid ++ rest) ∙ ap (λ l. bytes_bits front ++ l) (bytes-append mid rest) in
+    let now = bytes-append front (new ++ rest) ∙ ap (λ l. bytes_bits front ++ l) (bytes-append new rest) in
+    let bits = ap bytes_bits en ∙ word-bits word in
+    let whole =
+    pour-middle (i * 8) (bytes_bits front) (bits_of 64 word) (bytes_bits mid) (bytes_bits rest) (omega (arith, length-bytes_bits front))
+    (omega (arith, length-bits_of 64 word, length-bytes_bits mid)) in
+    rw ek (now ∙ ap (λ l. bytes_bits front ++ (l ++ bytes_bits rest)) bits ∙ sym (rw (← was) at whole))
 
 -- the new number of eight bytes is the old one with some bits replaced
 pub word-written : (old : List ℕ) (at width value word new : ℕ) → at / 8 + 7 < length old → at % 8 + width ≤ 64

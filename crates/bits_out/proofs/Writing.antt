@@ -37,10 +37,6 @@ module _ (old new : List ℕ) (at width value : ℕ) where
 pub none_written : (old : List ℕ) (at : ℕ) (bits : List Bool) → length old ≤ at / 8 → bytes_bits old ≡ pour at bits (bytes_bits old)
 none_written old at bits h = sym (pour-past at bits (bytes_bits old) (omega (arith, length-bytes_bits old)))
 
--- where a number ends
-pub bits-ended : (at w v : ℕ) (old : List Bool) (x : ℕ) (last : List Bool) → (x, last) ≡ poured at (bits_of w v) old → x ≡ up_to (at + w)
-bits-ended at w v old x last e = omega (arith, ended at (bits_of w v) old x last e, length-bits_of w v)
-
 pub zero_bits : (k : ℕ) → bits_of k 0 ≡ replicate k false
 unfolding bits_of
 zero_bits zero = refl

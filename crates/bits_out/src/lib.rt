@@ -14,7 +14,7 @@ fn with_field(byte: u8, bit: usize, size: usize, value: usize) -> u8
 {
     let unit = bits::two_to(8 - bit - size);
     let values = bits::two_to(size);
-    let old = byte as usize;
+    let old = usize::from(byte);
     ((old / unit / values * values + value % values) * unit + old % unit) as u8
 }
 
@@ -23,13 +23,14 @@ fn store(out: &mut [u8], at: usize, width: usize, value: usize)
     requires { (width ≤ 56) × (width ≤ length out.old * 8 - at) }
     ensures { bytes_bits out.new ≡ pour at (bits_of width value) (bytes_bits out.old) }
 {
+    // A `while`: each turn goes on by as many bits as are left in the byte.
     let mut index = at / 8;
     let mut bit = at % 8;
     let mut left = width;
     while 0 < left {
-        let size = output::least(8 - bit, left);
+        let size = left.min(8 - bit);
         left -= size;
-        out[index] = with_field(out[index], bit, size, value / bits::two_to(left));
+        out[index] = with_field(out[index], bit, size, value >> left);
         index += (bit + size) / 8;
         bit = (bit + size) % 8;
     }
@@ -41,7 +42,7 @@ fn put_room(out: &mut [u8], at: usize, width: usize, value: usize)
     ensures { bytes_bits out.new ≡ pour at (bits_of width value) (bytes_bits out.old) }
 {
     let count = bits::room(out.len(), at, width);
-    store(out, at, count, value / bits::two_to(width - count));
+    store(out, at, count, value >> (width - count));
 }
 
 // The number of eight bytes with the lowest `width` bits of another in place of its own, from the bit `bit` on.
@@ -59,14 +60,7 @@ fn store_word(out: &mut [u8], index: usize, word: usize)
     requires { index + 7 < length out.old }
     ensures { bytes_bits out.new ≡ pour (index * 8) (bits_of 64 word) (bytes_bits out.old) }
 {
-    out[index] = (word / 72057594037927936) as u8;
-    out[index + 1] = (word / 281474976710656 % 256) as u8;
-    out[index + 2] = (word / 1099511627776 % 256) as u8;
-    out[index + 3] = (word / 4294967296 % 256) as u8;
-    out[index + 4] = (word / 16777216 % 256) as u8;
-    out[index + 5] = (word / 65536 % 256) as u8;
-    out[index + 6] = (word / 256 % 256) as u8;
-    out[index + 7] = (word % 256) as u8;
+    out[index..index + 8].copy_from_slice(&word.to_be_bytes());
 }
 
 // As `put_room`. Up to 56 bits lie in eight bytes, which are read and stored as one number.
@@ -75,14 +69,12 @@ fn put_word(out: &mut [u8], at: usize, width: usize, value: usize)
     ensures { bytes_bits out.new ≡ pour at (bits_of width value) (bytes_bits out.old) }
 {
     let index = at / 8;
-    if 0 < width {
-        if index + 7 < out.len() {
-            let old = bits::word(out, index);
-            store_word(out, index, with_bits(old, at % 8, width, value));
-            return;
-        }
+    if 0 < width && index + 7 < out.len() {
+        let old = bits::word(out, index);
+        store_word(out, index, with_bits(old, at % 8, width, value));
+    } else {
+        put_room(out, at, width, value);
     }
-    put_room(out, at, width, value);
 }
 
 // The lowest `width` bits of a number, stored from the bit `at` on as far as the buffer goes, and the place behind them.
@@ -90,10 +82,8 @@ pub fn put_bits(out: &mut [u8], at: usize, width: usize, value: usize) -> usize
     requires { width ≤ 56 }
     ensures { (result, bytes_bits out.new) ≡ poured at (bits_of width value) (bytes_bits out.old) }
 {
-    let end = output::sum(at, width);
-    if out.len() <= at / 8 {
-        return end;
+    if at / 8 < out.len() {
+        put_word(out, at, width, value);
     }
-    put_word(out, at, width, value);
-    end
+    output::sum(at, width)
 }

@@ -1,12 +1,11 @@
 -- What a call makes, what it answers, and what it leaves in the buffer that it was lent.
-use Rattle.std.specs.Prelude.{ℕ, List, ◌++◌, cond, length, drop, leb}
+use Rattle.std.specs.Prelude.{ℕ, List, ◌++◌, cond, length, drop, leb, Ok, Err}
+use Rattle.std.specs.Prelude as std
 use Rattle.causes.specs.Causes.{number, outcome_number, wrong_answers}
 use Rattle.causes.specs.declared.Cause.{Cause}
 use Rattle.causes.specs.declared.Cause.TheVariants.{TooShort}
-use Rattle.causes.specs.declared.Written.{Written}
-use Rattle.causes.specs.declared.Written.TheVariants as written
-use Rattle.causes.specs.declared.Ran.{Ran}
-use Rattle.causes.specs.declared.Ran.TheVariants as ran
+use Rattle.causes.specs.declared.Refusal.{Refusal}
+use Rattle.causes.specs.declared.Report.{Report}
 
 -- A value, or a cause with its place.
 pub data Result (A : Type 0) : Type 0 where
@@ -53,11 +52,11 @@ lent (refused cause place) buffer = (refusing cause place, buffer)
 -- ---- "Where an answer is an enum, a definition provides this paper's number and values for each case"
 
 -- of translate, write_plate and read_plate
-abbrev pub written_answer : Written → Answer
-written_answer (written.Done length) = wrote length
-written_answer (written.Refused r) = refusing r.cause r.place
+abbrev pub written_answer : std.Result ℕ Refusal → Answer
+written_answer (Ok length) = wrote length
+written_answer (Err r) = refusing r.cause r.place
 
 -- of walk and run
-abbrev pub ran_answer : Ran → Answer
-ran_answer (ran.Done r) = ended r.length (outcome_number r.outcome) r.taken r.steps (wrong_answers r.outcome)
-ran_answer (ran.Refused r) = refusing r.cause r.place
+abbrev pub ran_answer : std.Result Report Refusal → Answer
+ran_answer (Ok r) = ended r.length (outcome_number r.outcome) r.taken r.steps (wrong_answers r.outcome)
+ran_answer (Err r) = refusing r.cause r.place

@@ -10,7 +10,7 @@ ghost use Rattle.causes.specs.Causes.{number, outcome_number, wrong_answers};
 pub mod limits;
 
 // The causes, in the order of their numbers, 1 to 15.
-#[derive(Clone, Copy)]
+#[derive(Clone, Copy, Debug, PartialEq, Eq)]
 pub enum Cause {
     // The phrase book: over 256 phrases, a bad or repeated text, no last LF.
     Book,
@@ -45,14 +45,14 @@ pub enum Cause {
 }
 
 // A refusal: the cause, and the line, the bit or the 0 that document 01 returns with it.
-#[derive(Clone, Copy)]
+#[derive(Clone, Copy, Debug, PartialEq, Eq)]
 pub struct Refusal {
     pub cause: Cause,
     pub place: usize,
 }
 
 // How a walk or a run ends.
-#[derive(Clone, Copy)]
+#[derive(Clone, Copy, Debug, PartialEq, Eq)]
 pub enum Outcome {
     Verdict,
     End,
@@ -62,7 +62,7 @@ pub enum Outcome {
 }
 
 // What a walk or a run returns: the transcript's length, the outcome, with the wrong answers so far where it waits, the answers taken and the steps.
-#[derive(Clone, Copy)]
+#[derive(Clone, Copy, Debug, PartialEq, Eq)]
 pub struct Report {
     pub length: usize,
     pub outcome: Outcome,
@@ -71,62 +71,59 @@ pub struct Report {
 }
 
 // The answer of translate, write_plate and read_plate: the result's length, or a refusal.
-#[derive(Clone, Copy)]
-pub enum Written {
-    Done(usize),
-    Refused(Refusal),
-}
+pub type Written = Result<usize, Refusal>;
 
 // The answer of walk and run.
-#[derive(Clone, Copy)]
-pub enum Ran {
-    Done(Report),
-    Refused(Refusal),
-}
+pub type Ran = Result<Report, Refusal>;
 
 // The paper's number of a cause.
-pub fn number_of(cause: Cause) -> u32
-    ensures { result ≡ number cause }
-{
-    match cause {
-        Cause::Book => 1,
-        Cause::TooLong => 2,
-        Cause::Byte => 3,
-        Cause::Kind => 4,
-        Cause::Value => 5,
-        Cause::Phrase => 6,
-        Cause::Nesting => 7,
-        Cause::Skip => 8,
-        Cause::Instructions => 9,
-        Cause::PlateTooLong => 10,
-        Cause::TooShort => 11,
-        Cause::PlateEnds => 12,
-        Cause::Unused => 13,
-        Cause::Spelling => 14,
-        Cause::Filling => 15,
+impl From<Cause> for u32 {
+    ghost from_gives = { λ cause n. n ≡ number cause };
+
+    fn from(cause: Cause) -> u32 {
+        match cause {
+            Cause::Book => 1,
+            Cause::TooLong => 2,
+            Cause::Byte => 3,
+            Cause::Kind => 4,
+            Cause::Value => 5,
+            Cause::Phrase => 6,
+            Cause::Nesting => 7,
+            Cause::Skip => 8,
+            Cause::Instructions => 9,
+            Cause::PlateTooLong => 10,
+            Cause::TooShort => 11,
+            Cause::PlateEnds => 12,
+            Cause::Unused => 13,
+            Cause::Spelling => 14,
+            Cause::Filling => 15,
+        }
     }
 }
 
 // The paper's number of an outcome.
-pub fn outcome_of(outcome: Outcome) -> u32
-    ensures { result ≡ outcome_number outcome }
-{
-    match outcome {
-        Outcome::Verdict => 0,
-        Outcome::End => 1,
-        Outcome::Waiting { .. } => 2,
-        Outcome::Outside => 3,
+impl From<Outcome> for u32 {
+    ghost from_gives = { λ outcome n. n ≡ outcome_number outcome };
+
+    fn from(outcome: Outcome) -> u32 {
+        match outcome {
+            Outcome::Verdict => 0,
+            Outcome::End => 1,
+            Outcome::Waiting { .. } => 2,
+            Outcome::Outside => 3,
+        }
     }
 }
 
-// The wrong answers so far in the present question.
-pub fn wrong_of(outcome: Outcome) -> u32
-    ensures { result ≡ wrong_answers outcome }
-{
-    match outcome {
-        Outcome::Verdict => 0,
-        Outcome::End => 0,
-        Outcome::Waiting { wrong } => wrong as u32,
-        Outcome::Outside => 3,
+impl Outcome {
+    // The wrong answers so far in the present question.
+    pub fn wrong(self) -> u32
+        ensures { result ≡ wrong_answers self }
+    {
+        match self {
+            Outcome::Verdict | Outcome::End => 0,
+            Outcome::Waiting { wrong } => wrong as u32,
+            Outcome::Outside => 3,
+        }
     }
 }

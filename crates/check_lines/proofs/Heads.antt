@@ -1,6 +1,8 @@
 -- The check sees of a line only its head, and of a phrase its text.
 use Prim.Native.Nat.{ℕ}
-use mathlib.Core.Path.{◌≡◌, refl}
+use mathlib.Core.Path.{◌≡◌, refl, sym, subst}
+use Rattle.std.specs.Prelude.{Result, Ok, Err}
+use Rattle.causes.specs.declared.Cause.{Cause}
 use mathlib.Core.List.{List, [], ◌∷◌}
 use lib.ListN.{get_or}
 use types.Run.{OneOf, miss}
@@ -30,8 +32,13 @@ itself l = record { cause = λ b s. refl; seen = λ n s. refl }
 said : (x y : Statement) → Alike (says x) (says y)
 said x y = record { cause = λ b s. refl; seen = λ n s. refl }
 
-read_alike : {form : Form} {fs : List (List ℕ)} {l : Line} → ReadAs form fs l → Alike l (line_with (get_or fs 1 []) (head_of l))
-read_alike (as-fault c) = itself _
+-- l and the line with this head, if it is one, whose text is x
+abbrev AlikeOf : Line → Text → Result Head Cause → Type 0
+AlikeOf l x (Ok h) = Alike l (line_with x h)
+AlikeOf l x (Err c) = Unit
+
+read_alike : {form : Form} {fs : List (List ℕ)} {l : Line} → ReadAs form fs l → AlikeOf l (get_or fs 1 []) (head_of l)
+read_alike (as-fault c) = tt
 read_alike (as-phrase h) = itself _
 read_alike (as-input r h) = said _ _
 read_alike (as-inputs n r h) = said _ _
@@ -43,8 +50,8 @@ read_alike as-fi = itself _
 read_alike (as-goto k) = itself _
 read_alike (as-if-skip r o c k) = itself _
 
-pub line-alike : (form : Form) (p : List ℕ) → Alike (line_of form p) (line_with (phrase_text p) (head_of (line_of form p)))
-line-alike form p = read_alike (line-read-as form p)
+pub line-alike : (form : Form) (p : List ℕ) {h : Head} → Ok h ≡ head_of (line_of form p) → Alike (line_of form p) (line_with (phrase_text p) h)
+line-alike form p e = subst (AlikeOf (line_of form p) (phrase_text p)) (sym e) (read_alike (line-read-as form p))
 
 -- a line of another kind than `phrase`, `if`, `else` and `fi`, with no fault, is one instruction more
 pub record Counts (h : Head) : Type 0 where
@@ -66,4 +73,3 @@ counts head.Else e = absurd (miss counting 6 tt e)
 counts head.Fi e = absurd (miss counting 7 tt e)
 counts (head.Goto k) e = record { cause = λ b s x. refl; seen = λ n x. refl }
 counts (head.IfSkip t k) e = record { cause = λ b s x. refl; seen = λ n x. refl }
-counts (head.Faulty c) e = absurd (miss counting 10 tt e)

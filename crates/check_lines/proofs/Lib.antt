@@ -1,5 +1,6 @@
 pub mod OpenIfs
 pub mod Heads
+pub mod Judged
 pub mod Room
 pub mod OwnFirst
 pub mod LinesPassed

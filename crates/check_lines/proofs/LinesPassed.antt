@@ -4,7 +4,7 @@ use native.Mathlib.Omega.{arith}
 use native.Mathlib.Numerals.{add-one}
 use mathlib.Core.Path.{◌≡◌, refl, sym, ap, subst, ◌∙◌}
 use mathlib.Core.List.{List, ◌∷◌}
-use mathlib.Core.Option.{Option, none, some}
+use Rattle.std.specs.Prelude.{None, Result, Ok, Err}
 use lib.ListN.{length, take, drop, drop_of_length-le}
 use lib.Seq.{drop-cons, drop-drop}
 use Rattle.causes.specs.Answers.{refused}
@@ -21,20 +21,10 @@ use Rattle.lines.specs.Line.{line_of, lines_in}
 use Rattle.lines.specs.Check.{Seen, nothing_seen, cause_of, next, at_end, check_from, lines_of}
 use Rattle.lines.specs.Answers.{head_of}
 use Rattle.check_lines.specs.declared.seen.Seen.{Seen as Held}
-use Rattle.check_lines.specs.declared.fault.Fault.{Fault}
-use Rattle.check_lines.specs.declared.fault.Fault.TheVariants.{Absent, Is}
-use Rattle.check_lines.specs.Held.{open_ifs, seen_of, seen_with, Sound, Holds, Advanced, Passing, line_with, fault_answer}
+use Rattle.check_lines.specs.Held.{open_ifs, seen_of, Sound, Holds, Advanced, Passing, line_with, judged}
 use Rattle.check_lines.proofs.Heads.{line-alike}
+use Rattle.check_lines.proofs.Judged.{judged-ok, judged-err}
 use Rattle.check_lines.proofs.OwnFirst.{Front, front-none, front-next}
-
--- the cause that an answer says
-abbrev cause_in : Fault → Option Cause
-cause_in Absent = none
-cause_in (Is cause) = some cause
-
-cause-back : (o : Option Cause) → o ≡ cause_in (fault_answer o)
-cause-back none = refl
-cause-back (some c) = refl
 
 -- m lines of the text, before the place a, have no cause, and s and the array os are held of them
 pub record Passed (form : Form) (book : List Text) (text : List ℕ) (m a : ℕ) (s : Held) (os : List ℕ) : Type 0 where
@@ -81,64 +71,66 @@ module _ {form : Form} {book : List Text} {text : List ℕ} {m a : ℕ} {s : Hel
         let n : e - a ≡ suc (e - (a + 1)) = omega arith in
         g.rest ∙ rw (part-last LF text a e k l, n, drop-cons text a 0 h)
 
-    -- it ends in LF, and has the head d
-    module _ (l : e ≤ length text) (o : e ≡ length text → ⊥) {d : Head} (z : d ≡ head_of (line_of form (take (e - a) (drop a text)))) where
+    -- it ends in LF, and r is how the code judges it
+    module _ (l : e ≤ length text) (o : e ≡ length text → ⊥) {r : Result Head Cause}
+        (c : r ≡ judged book (seen_of (own_texts s.own text) s os) (line_of form (take (e - a) (drop a text)))) where
       abbrev here : List ℕ
       here = take (e - a) (drop a text)
 
       first : split LF (drop a text) ≡ here ∷ split LF (drop (e + 1) text)
       first = part-first LF text a e k (omega arith)
 
-      -- the code's cause is the line's
-      module _ {r : Fault} (c : r ≡ fault_answer (cause_of book (seen_with text s os) (line_with (phrase_text here) d))) where
-        by-head : cause_of book g.seen (line_with (phrase_text here) d) ≡ cause_in r
-        by-head =
-            let same : seen_with text s os ≡ g.seen = ap (λ own. seen_of own s os) (sym own_is) ∙ g.holds.rest in
-            cause-back _ ∙ ap cause_in (ap (λ t. fault_answer (cause_of book t (line_with (phrase_text here) d))) (sym same) ∙ sym c)
+      seen-is : seen_of (own_texts s.own text) s os ≡ g.seen
+      seen-is = ap (λ own. seen_of own s os) (sym own_is) ∙ g.holds.rest
 
-        line-cause : cause_of book g.seen (line_of form here) ≡ cause_in r
-        line-cause =
-            (line-alike form here).cause book g.seen
-            ∙ ap (λ d. cause_of book g.seen (line_with (phrase_text here) d)) (sym z)
-            ∙ by-head
+      judged-here : r ≡ judged book g.seen (line_of form here)
+      judged-here = c ∙ ap (λ t. judged book t (line_of form here)) seen-is
 
-        pub line_refused : {cause : Cause} → r ≡ Is cause → check_from book 1 nothing_seen (lines_of form text) ≡ refused cause (m + 1)
+      pub line_refused : {cause : Cause} → r ≡ Err cause → check_from book 1 nothing_seen (lines_of form text) ≡ refused cause (m + 1)
+      unfolding check_from lines_in
+      line_refused i =
+          let b = judged-err book g.seen (line_of form here) (sym i ∙ judged-here) in
+          g.rest ∙ rw (first, (split-some LF (drop (e + 1) text)).2, b, check_from)
+
+      -- with no cause it has the head d
+      module _ {d : Head} (i : r ≡ Ok d) where
+        no-cause : (cause_of book g.seen (line_of form here) ≡ None) × (Ok d ≡ head_of (line_of form here))
+        no-cause = judged-ok book g.seen (line_of form here) (sym i ∙ judged-here)
+
+        pub line-head : Ok d ≡ head_of (line_of form here)
+        line-head = no-cause.1
+
+        by-head : cause_of book g.seen (line_with (phrase_text here) d) ≡ None
+        by-head = sym ((line-alike form here line-head).cause book g.seen) ∙ no-cause.0
+
+        pub passing : Passing d s os
+        passing = record {
+          book = book;
+          own = g.seen.own;
+          text = phrase_text here;
+          count = g.holds.own;
+          passes = rw g.holds.rest by-head;
+        }
+
+        -- what is seen with this line
+        abbrev after : Seen → Seen
+        after t = next (m + 1) (line_with (phrase_text here) d) t
+
+        seen-after : next (m + 1) (line_of form here) g.seen ≡ after g.seen
+        seen-after = (line-alike form here line-head).seen (m + 1) g.seen
+
+        pub line-passed : (q : Held) (qs : List ℕ) → ((x : Text) → Advanced (next (m + 1) (line_with x d)) s os q qs)
+            → Passed form book text (m + 1) (e + 1) q qs
         unfolding check_from lines_in
-        line_refused {cause} i =
-            let b : cause_of book g.seen (line_of form here) ≡ some cause = line-cause ∙ ap cause_in i in
-            g.rest ∙ rw (first, (split-some LF (drop (e + 1) text)).2, b, check_from)
-
-        module _ (i : r ≡ Absent) where
-          pub passing : Passing d s os
-          passing = record {
-            book = book;
-            own = g.seen.own;
-            text = phrase_text here;
-            count = g.holds.own;
-            passes = rw g.holds.rest (by-head ∙ ap cause_in i);
-          }
-
-          -- what is seen with this line
-          abbrev after : Seen → Seen
-          after t = next (m + 1) (line_with (phrase_text here) d) t
-
-          seen-after : next (m + 1) (line_of form here) g.seen ≡ after g.seen
-          seen-after =
-              (line-alike form here).seen (m + 1) g.seen
-              ∙ ap (λ d. next (m + 1) (line_with (phrase_text here) d) g.seen) (sym z)
-
-          pub line-passed : (q : Held) (qs : List ℕ) → ((x : Text) → Advanced (next (m + 1) (line_with x d)) s os q qs)
-              → Passed form book text (m + 1) (e + 1) q qs
-          unfolding check_from lines_in
-          line-passed q qs w =
-              let b : cause_of book g.seen (line_of form here) ≡ none = line-cause ∙ ap cause_in i in
-              let v = w (phrase_text here) in
-              record {
-                seen = after g.seen;
-                holds = subst (λ t. Holds (after t) q qs) g.holds.rest (v.holds g.seen.own g.holds.own);
-                sound = v.sound;
-                front = rw add-one (front-next text m g.seen g.front book here _ (g.place ∙ first) d (by-head ∙ ap cause_in i));
-                place = sym (drop-drop 1 m (split LF text)) ∙ ap (drop 1) (g.place ∙ first);
-                few = omega (arith, g.few);
-                rest = g.rest ∙ rw (first, (split-some LF (drop (e + 1) text)).2, b, seen-after, add-one (m + 1), check_from);
-              }
+        line-passed q qs w =
+            let b : cause_of book g.seen (line_of form here) ≡ None = no-cause.0 in
+            let v = w (phrase_text here) in
+            record {
+              seen = after g.seen;
+              holds = subst (λ t. Holds (after t) q qs) g.holds.rest (v.holds g.seen.own g.holds.own);
+              sound = v.sound;
+              front = rw add-one (front-next text m g.seen g.front book here _ (g.place ∙ first) d by-head);
+              place = sym (drop-drop 1 m (split LF text)) ∙ ap (drop 1) (g.place ∙ first);
+              few = omega (arith, g.few);
+              rest = g.rest ∙ rw (first, (split-some LF (drop (e + 1) text)).2, b, seen-after, add-one (m + 1), check_from);
+            }

@@ -3,7 +3,7 @@ use Prim.Native.Nat.{ℕ, suc, ◌+◌, ◌-◌, ◌*◌, ◌≤◌, ◌<◌}
 use native.Mathlib.Omega.{arith}
 use mathlib.Core.Path.{◌≡◌, refl, sym, ap, subst, ◌∙◌}
 use mathlib.Core.List.{List, [], ◌∷◌}
-use mathlib.Core.Option.{none}
+use Rattle.std.specs.Prelude.{None, Result, Ok, Err}
 use lib.ListN.{length, take, drop, get_or, set, length-set, length-append, length-drop}
 use lib.Seq.{get_or-set_same, length-take-le}
 use Rattle.causes.specs.declared.Refusal.{Refusal}
@@ -14,10 +14,9 @@ use Rattle.phrases.specs.Lookup.{book_texts, phrase_text, own_texts}
 use Rattle.phrases.specs.Index.{Indexed}
 use Rattle.phrases.specs.Own.{own_number, own_text, OwnAt, Listed}
 use Rattle.phrases.proofs.Entries.{indexed-count}
-use Rattle.phrases.proofs.OwnEntries.{own-none, index_kept, own-more, kept-none, kept_more}
+use Rattle.phrases.proofs.OwnEntries.{own-there, own-none, index_kept, own-more, kept-none, kept_more}
 use Rattle.lines.specs.declared.Form.{Form}
-use Rattle.lines.specs.declared.Checked.{Checked}
-use Rattle.lines.specs.declared.Checked.TheVariants.{Fine, Refused}
+use Rattle.lines.specs.declared.Counts.{Counts}
 use Rattle.lines.specs.declared.Head.{Head}
 use Rattle.lines.specs.declared.Head.TheVariants as head
 use Rattle.lines.specs.Line.{line_of}
@@ -33,8 +32,8 @@ use Rattle.check_lines.proofs.OwnEntered.{entered-phrase}
 use Rattle.check_lines.proofs.PhraseLines.{line-long, line-short, text-part}
 
 -- a refusal accepts nothing
-pub not-fine : {r : Refusal} {own n : ℕ} → Refused r ≡ Fine own n → ⊥
-not-fine e = let z : ◌≡◌ {A = ℕ} 0 1 = cc in omega arith
+pub not-fine : {r : Refusal} {k : Counts} → Err r ≡ Ok k → ⊥
+not-fine e = cc
 
 module _ (form : Form) (book text index : List ℕ) where
   -- no line yet
@@ -54,13 +53,13 @@ module _ (form : Form) (book text index : List ℕ) where
 
   -- where the check accepts the text, a lookup can be lent what it left
   pub listed-end : {first os : List ℕ} {m a : ℕ} {s : Held} → Numbered form book text first index s.own m a → (t : Seen) → Holds t s os
-      → {r : Checked} → r ≡ checked_answer (at_end (open_ifs s.depth os) (seen_of t.own s os)) → (j n : ℕ) → r ≡ Fine j n
-      → Listed index book text j
-  listed-end {os = os} {s = s} v t c e j n h = go (open_ifs s.depth os) (sym e ∙ h)
+      → {r : Result Counts Refusal} → r ≡ checked_answer (at_end (open_ifs s.depth os) (seen_of t.own s os)) → (k : Counts) → r ≡ Ok k
+      → Listed index book text k.own
+  listed-end {os = os} {s = s} v t c e k h = go (open_ifs s.depth os) (sym e ∙ h)
     where
-      go : (ifs : List Open) → checked_answer (at_end ifs (seen_of t.own s os)) ≡ Fine j n → Listed index book text j
+      go : (ifs : List Open) → checked_answer (at_end ifs (seen_of t.own s os)) ≡ Ok k → Listed index book text k.own
       go [] f =
-          let i : j ≡ length t.own = cc in
+          let i : k.own ≡ length t.own = cc in
           rw (i, c.own) (record { indexed = v.indexed; numbers = v.numbers; few = v.few })
       go (x ∷ ifs) f = absurd (not-fine f)
 
@@ -77,10 +76,10 @@ module _ {form : Form} {book text first index : List ℕ} {m a : ℕ} {s : Held}
   line-is : get_or (split LF text) m [] ≡ here
   line-is = at_front (split LF text) m ∙ ap (λ ls. get_or ls 0 []) (g.place ∙ part-first LF text a e k (omega arith))
 
-  module _ {d : Head} (z : d ≡ head_of (line_of form here)) (p : Passing d s os) where
+  module _ {d : Head} (z : Ok d ≡ head_of (line_of form here)) (p : Passing d s os) where
     module _ (h : d ≡ head.Phrase) where
-      allowed : cause_of p.book (seen_of p.own s os) (line_with p.text head.Phrase) ≡ none
-      allowed = subst (λ d. cause_of p.book (seen_of p.own s os) (line_with p.text d) ≡ none) h p.passes
+      allowed : cause_of p.book (seen_of p.own s os) (line_with p.text head.Phrase) ≡ None
+      allowed = subst (λ d. cause_of p.book (seen_of p.own s os) (line_with p.text d) ≡ None) h p.passes
 
       few : s.own < 32
       few = omega (arith, (phrase-allowed p.book (seen_of p.own s os) p.text allowed).1, p.count)
@@ -97,11 +96,11 @@ module _ {form : Form} {book text first index : List ℕ} {m a : ℕ} {s : Held}
 
       -- a guide has no such line
       room : 161 + length (book_texts book) ≤ length index
-      room = rw (ap own_room (phrase-form form here (sym z ∙ h))) at v.room
+      room = rw (ap own_room (phrase-form form here (sym z ∙ ap Ok h))) at v.room
 
       pub enters : Enters s.own a e text index
       enters =
-          let t = sym h ∙ z in
+          let t = ap Ok (sym h) ∙ z in
           record {
             place = omega (arith, room, indexed-count index book v.indexed, few);
             near = omega (arith, start);
@@ -115,7 +114,7 @@ module _ {form : Form} {book text first index : List ℕ} {m a : ℕ} {s : Held}
       text-is =
           ap (λ j. phrase_text (get_or (split LF text) j [])) (sym behind-phrases)
           ∙ ap phrase_text line-is
-          ∙ text-part form text a e (omega arith) l (sym h ∙ z)
+          ∙ text-part form text a e (omega arith) l (ap Ok (sym h) ∙ z)
 
       size : length words ≡ e - (a + 7)
       size = length-take-le (e - (a + 7)) (drop (a + 7) text) (simp length-drop (omega arith))
@@ -131,15 +130,9 @@ module _ {form : Form} {book text first index : List ℕ} {m a : ℕ} {s : Held}
       own_at : OwnAt last book text s.own
       own_at =
           let n : 129 + length (book_texts book) + s.own < length index = omega (arith, room, few) in
-          record {
-            room = simp length-set n;
-            at = a + 7;
-            near = enters.near;
-            short = rw text-is (omega (arith, size, enters));
-            inside = rw text-is (omega (arith, size, enters));
-            stands = rw text-is (ap (λ j. take j (drop (a + 7) text)) size);
-            number = get_or-set_same index (129 + length (book_texts book) + s.own) _ 0 n ∙ ap (own_number (a + 7)) (sym text-is);
-          }
+          own-there last book text s.own (a + 7) (simp length-set n) enters.near (rw text-is (omega (arith, size, enters)))
+          (rw text-is (omega (arith, size, enters))) (rw text-is (ap (λ j. take j (drop (a + 7) text)) size))
+          (get_or-set_same index (129 + length (book_texts book) + s.own) _ 0 n ∙ ap (own_number (a + 7)) (sym text-is))
 
       with-phrase : length (own_texts (suc s.own) text) ≡ suc s.own → Numbered form book text first last (suc s.own) (m + 1) (e + 1)
       with-phrase w =
@@ -151,7 +144,7 @@ module _ {form : Form} {book text first index : List ℕ} {m a : ℕ} {s : Held}
             kept = kept_more book first index s.own _ few v.kept;
             few = few;
             among = omega (arith, v.among);
-            near = λ n. omega (arith, v.near behind-phrases, line-short form text a e (omega arith) l (sym h ∙ z));
+            near = λ n. omega (arith, v.near behind-phrases, line-short form text a e (omega arith) l (ap Ok (sym h) ∙ z));
           }
 
   -- another line
@@ -171,7 +164,7 @@ module _ {form : Form} {book text first index : List ℕ} {m a : ℕ} {s : Held}
 
   -- q and qs are held of the lines with this one, and the own phrases are there
   module _ {q : Held} {qs last : List ℕ} (w : length (own_texts q.own text) ≡ q.own) where
-    pub numbered_next : (d : Head) → d ≡ head_of (line_of form here) → Passing d s os
+    pub numbered_next : (d : Head) → Ok d ≡ head_of (line_of form here) → Passing d s os
         → ((x : Text) → Advanced (next (m + 1) (line_with x d)) s os q qs) → last ≡ entered d s.own a e text index
         → Numbered form book text first last q.own (m + 1) (e + 1)
     unfolding entered
@@ -188,4 +181,3 @@ module _ {form : Form} {book text first index : List ℕ} {m a : ℕ} {s : Held}
     numbered_next head.Fi z p f i = without ((f []).holds g.seen.own g.holds.own).own i
     numbered_next (head.Goto j) z p f i = without ((f []).holds g.seen.own g.holds.own).own i
     numbered_next (head.IfSkip t j) z p f i = without ((f []).holds g.seen.own g.holds.own).own i
-    numbered_next (head.Faulty c) z p f i = without ((f []).holds g.seen.own g.holds.own).own i

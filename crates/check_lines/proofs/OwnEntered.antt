@@ -1,7 +1,7 @@
 -- What the numbers are behind a line: that of a phrase is entered, and another line leaves them.
 use Prim.Native.Nat.{ℕ, ◌+◌, ◌-◌}
 use mathlib.Core.Path.{◌≡◌, refl, ap}
-use mathlib.Core.List.{List, [], ◌∷◌}
+use mathlib.Core.List.{List}
 use lib.ListN.{take, drop, get_or, set}
 use Rattle.phrases.specs.Own.{own_number}
 use Rattle.lines.specs.declared.Head.{Head}
@@ -26,4 +26,3 @@ module _ (k a e : ℕ) (text index : List ℕ) where
   entered-other head.Fi o = refl
   entered-other (head.Goto j) o = refl
   entered-other (head.IfSkip t j) o = refl
-  entered-other (head.Faulty c) o = refl

@@ -4,7 +4,8 @@ use native.Mathlib.Omega.{arith}
 use native.Mathlib.Numerals.{add-one}
 use mathlib.Core.Path.{◌≡◌, refl, sym, ap, subst, ◌∙◌}
 use mathlib.Core.List.{List, [], ◌∷◌, ◌++◌}
-use mathlib.Core.Option.{none, some-ne-none}
+use Rattle.std.specs.Prelude.{None}
+use Rattle.std.proofs.lemmas.Option.{none-some}
 use lib.ListN.{length, drop, get_or, length-drop, length-append}
 use lib.Seq.{drop-drop}
 use Rattle.causes.specs.Answers.{made}
@@ -19,11 +20,11 @@ use Rattle.lines.specs.declared.Head.{Head}
 use Rattle.lines.specs.declared.Head.TheVariants as head
 use Rattle.lines.specs.Line.{line_of, lines_in}
 use Rattle.lines.specs.Check.{Open, Seen, nothing_seen, cause_of, fi_cause, one_more_instruction, turn, next, check_from, lines_of}
-use Rattle.lines.specs.Answers.{head_of}
 use Rattle.lines.proofs.Passes.{Passes, check-passes}
 use Rattle.lines.proofs.Kept.{phrase-allowed}
 use Rattle.check_lines.specs.Held.{line_with}
 use Rattle.check_lines.proofs.Heads.{line-alike}
+use Rattle.check_lines.proofs.Judged.{has-head}
 
 -- t is seen in the first m lines of the text
 pub record Front (text : List ℕ) (m : ℕ) (t : Seen) : Type 0 where
@@ -53,11 +54,11 @@ module _ (text : List ℕ) (m : ℕ) (t : Seen) (f : Front text m t) where
   counted : (ifs : List Open) → Front text (suc m) (one_more_instruction ifs t)
   counted ifs = record { own = f.own; first = λ e. absurd (omega arith) }
 
-  fi-inside : fi_cause t.ifs ≡ none → t.ifs ≡ [] → ⊥
-  fi-inside c e = some-ne-none Nesting (ap fi_cause (sym e) ∙ c)
+  fi-inside : fi_cause t.ifs ≡ None → t.ifs ≡ [] → ⊥
+  fi-inside c e = none-some Nesting (sym c ∙ ap fi_cause e)
 
   pub front-next : (book : List Text) (p : List ℕ) (ps : List (List ℕ)) → drop m (split LF text) ≡ p ∷ ps → (h : Head)
-      → cause_of book t (line_with (phrase_text p) h) ≡ none → Front text (suc m) (next (suc m) (line_with (phrase_text p) h) t)
+      → cause_of book t (line_with (phrase_text p) h) ≡ None → Front text (suc m) (next (suc m) (line_with (phrase_text p) h) t)
   front-next book p ps at head.Phrase c =
       let a = phrase-allowed book t (phrase_text p) c in
       let k = f.first a.0 in
@@ -74,7 +75,6 @@ module _ (text : List ℕ) (m : ℕ) (t : Seen) (f : Front text m t) where
   front-next book p ps at head.Fi c = record { own = f.own; first = λ e. absurd (fi-inside c (f.first e).1) }
   front-next book p ps at (head.Goto k) c = counted t.ifs
   front-next book p ps at (head.IfSkip x k) c = counted t.ifs
-  front-next book p ps at (head.Faulty d) c = absurd (some-ne-none d c)
 
 -- so are those of a whole text
 module _ (form : Form) (book : List Text) (text : List ℕ) where
@@ -83,10 +83,11 @@ module _ (form : Form) (book : List Text) (text : List ℕ) where
   unfolding lines_in
   lines-front m t last [] at f p = subst (λ t. t.own ≡ own_texts (length t.own) text) p.1 f.own
   lines-front m t last ([] ∷ []) at f p = subst (λ t. t.own ≡ own_texts (length t.own) text) p.1 f.own
-  lines-front m t last ((b ∷ s) ∷ []) at f p = absurd (some-ne-none Byte p.0)
+  lines-front m t last ((b ∷ s) ∷ []) at f p = absurd (none-some Byte (sym p.0))
   lines-front m t last (s ∷ q ∷ ps) at f p =
-      let a = line-alike form s in
-      let g = front-next text m t f book s (q ∷ ps) at (head_of (line_of form s)) (sym (a.cause book t) ∙ p.0) in
+      let h = has-head book t (line_of form s) p.0 in
+      let a = line-alike form s h.is in
+      let g = front-next text m t f book s (q ∷ ps) at h.head (sym (a.cause book t) ∙ p.0) in
       let d : drop (suc m) (split LF text) ≡ q ∷ ps = rw add-one at (sym (drop-drop 1 m (split LF text)) ∙ ap (drop 1) at) in
       lines-front (suc m) (next (suc m) (line_of form s) t) last (q ∷ ps) d (rw (a.seen (suc m) t) g) p.1
 

@@ -5,6 +5,8 @@ use mathlib.Core.Path.{◌≡◌, refl, sym, ap, subst, ◌∙◌}
 use mathlib.Core.List.{List, []}
 use mathlib.Core.Bool.{true}
 use lib.ListN.{length, take, drop, get_or, length-drop}
+use Rattle.std.specs.Prelude.{Result, Ok, Err}
+use Rattle.causes.specs.declared.Cause.{Cause}
 use lib.Seq.{take-add, drop_at, drop-drop, length-take-le}
 use Rattle.text.specs.Parts.{split, join, comma}
 use Rattle.text.specs.Text.{Text, is_text, is_plain, is_own_text}
@@ -38,12 +40,16 @@ Tells head.Else fs s = Unit
 Tells head.Fi fs s = Unit
 Tells (head.Goto k) fs s = Unit
 Tells (head.IfSkip t k) fs s = Unit
-Tells (head.Faulty c) fs s = Unit
+
+-- where it has a head
+abbrev TellsOf : Result Head Cause → List (List ℕ) → List ℕ → Type 0
+TellsOf (Ok h) fs s = Tells h fs s
+TellsOf (Err c) fs s = Unit
 
 text-short : (t : Text) → is_own_text t ≡ true → length t ≤ 64
 text-short t h = (text-size t (and_parts (is_text t) (is_plain t) h).0).1
 
-read-tells : {form : Form} {fs : List (List ℕ)} {l : Line} → ReadAs form fs l → Tells (head_of l) fs (join comma fs)
+read-tells : {form : Form} {fs : List (List ℕ)} {l : Line} → ReadAs form fs l → TellsOf (head_of l) fs (join comma fs)
 unfolding join
 read-tells (as-fault c) = tt
 read-tells (as-phrase {t = t} h) = record { text = refl; long = omega arith; short = omega (arith, text-short t h) }
@@ -57,12 +63,12 @@ read-tells as-fi = tt
 read-tells (as-goto k) = tt
 read-tells (as-if-skip r o c k) = tt
 
-pub phrase-told : (form : Form) (s : List ℕ) → head.Phrase ≡ head_of (line_of form s) → Told s (phrase_text s)
-phrase-told form s e = subst (λ d. Tells d (split comma s) s) (sym e) (rw (join-split comma s) at (read-tells (line-read-as form s)))
+pub phrase-told : (form : Form) (s : List ℕ) → Ok head.Phrase ≡ head_of (line_of form s) → Told s (phrase_text s)
+phrase-told form s e = subst (λ (d : Result Head Cause). TellsOf d (split comma s) s) (sym e) (rw (join-split comma s) at (read-tells (line-read-as form s)))
 
 -- a phrase that stands from a to e in a text
 module _ (form : Form) (text : List ℕ) (a e : ℕ) (i : a ≤ e) (l : e ≤ length text)
-    (h : head.Phrase ≡ head_of (line_of form (take (e - a) (drop a text)))) where
+    (h : Ok head.Phrase ≡ head_of (line_of form (take (e - a) (drop a text)))) where
   abbrev here : List ℕ
   here = take (e - a) (drop a text)
 

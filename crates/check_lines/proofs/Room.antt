@@ -3,7 +3,8 @@ use Prim.Native.Nat.{ℕ, zero, suc, ◌<◌}
 use native.Mathlib.Omega.{arith}
 use mathlib.Core.Path.{◌≡◌, sym, ◌∙◌}
 use mathlib.Core.List.{List}
-use mathlib.Core.Option.{Option, none, some-ne-none}
+use Rattle.std.specs.Prelude.{Option, None}
+use Rattle.std.proofs.lemmas.Option.{none-some}
 use lib.ListN.{length}
 use lib.Dec.{ltb}
 use borrow.Author.Tests.{ltb-true}
@@ -19,14 +20,14 @@ use Rattle.check_lines.specs.Held.{open_ifs, seen_of, Passing}
 use Rattle.check_lines.proofs.OpenIfs.{depth_is}
 use Rattle.check_lines.proofs.Heads.{Counts}
 
-else-open : (d : ℕ) (os : List ℕ) (room : Option Cause) → else_cause (open_ifs d os) room ≡ none → 0 < d
+else-open : (d : ℕ) (os : List ℕ) (room : Option Cause) → else_cause (open_ifs d os) room ≡ None → 0 < d
 unfolding open_ifs
-else-open zero os room h = absurd (some-ne-none Nesting h)
+else-open zero os room h = absurd (none-some Nesting (sym h))
 else-open (suc d) os room h = omega arith
 
-fi-open : (d : ℕ) (os : List ℕ) → fi_cause (open_ifs d os) ≡ none → 0 < d
+fi-open : (d : ℕ) (os : List ℕ) → fi_cause (open_ifs d os) ≡ None → 0 < d
 unfolding open_ifs
-fi-open zero os h = absurd (some-ne-none Nesting h)
+fi-open zero os h = absurd (none-some Nesting (sym h))
 fi-open (suc d) os h = omega arith
 
 module _ (s : Held) (os : List ℕ) where

@@ -1,17 +1,14 @@
 -- What the code holds of the lines seen: the own phrases by their number, and the open ifs in an array.
-use Rattle.std.specs.Prelude.{ℕ, zero, suc, ◌+◌, ◌≤◌, ◌≡◌, List, [], ◌∷◌, length, get_or, eqb}
-use Rattle.std.proofs.Math.Option.{Option, none, some}
+use Rattle.std.specs.Prelude.{ℕ, zero, suc, ◌+◌, ◌≤◌, ◌≡◌, List, [], ◌∷◌, length, get_or, eqb, Option, None, Some, Result, Ok, Err}
 use Rattle.causes.specs.declared.Cause.{Cause}
 use Rattle.text.specs.Text.{Text}
-use Rattle.phrases.specs.Lookup.{own_texts}
 use Rattle.transcript.specs.Statement.{input, inputs, print, printex}
 use Rattle.lines.specs.declared.Head.{Head}
 use Rattle.lines.specs.declared.Head.TheVariants as head
-use Rattle.lines.specs.Line.{Line, phrase, says, if_line, else_line, fi_line, goto_line, if_skip_line, faulty}
+use Rattle.lines.specs.Line.{Line, phrase, says, if_line, else_line, fi_line, goto_line, if_skip_line}
 use Rattle.lines.specs.Check.{Open, Seen, cause_of}
+use Rattle.lines.specs.Answers.{head_of}
 use Rattle.check_lines.specs.declared.seen.Seen.{Seen as Held}
-use Rattle.check_lines.specs.declared.fault.Fault.{Fault}
-use Rattle.check_lines.specs.declared.fault.Fault.TheVariants.{Absent, Is}
 
 -- the open if at the place d of the array: its line, and 16 places behind it a 1 once its `else` has come
 abbrev pub open_at : List ℕ → ℕ → Open
@@ -25,10 +22,6 @@ open_ifs (suc d) os = open_at os d ∷ open_ifs d os
 -- what is seen, where s and the array os are held and these are the own phrases
 abbrev pub seen_of : List Text → Held → List ℕ → Seen
 seen_of own s os = record { own = own; instructions = s.instructions; ifs = open_ifs s.depth os }
-
--- what is seen in a text, where s and the array os are held
-abbrev pub seen_with : List ℕ → Held → List ℕ → Seen
-seen_with text s os = seen_of (own_texts s.own text) s os
 
 -- the open ifs are in the array
 pub record Sound (s : Held) (os : List ℕ) : Type 0 where
@@ -57,7 +50,6 @@ line_with x head.Else = else_line
 line_with x head.Fi = fi_line
 line_with x (head.Goto k) = goto_line k
 line_with x (head.IfSkip t k) = if_skip_line t k
-line_with x (head.Faulty c) = faulty c
 
 -- a line with this head has no cause behind lines of which s and the array os are held
 pub record Passing (h : Head) (s : Held) (os : List ℕ) : Type 0 where
@@ -65,9 +57,18 @@ pub record Passing (h : Head) (s : Held) (os : List ℕ) : Type 0 where
   pub own : List Text
   pub text : Text
   pub count : length own ≡ s.own
-  pub passes : cause_of book (seen_of own s os) (line_with text h) ≡ none
+  pub passes : cause_of book (seen_of own s os) (line_with text h) ≡ None
 
 -- of the search for a line's cause
-abbrev pub fault_answer : Option Cause → Fault
-fault_answer none = Absent
-fault_answer (some cause) = Is cause
+abbrev pub fault_answer : Option Cause → Result Unit Cause
+fault_answer None = Ok tt
+fault_answer (Some cause) = Err cause
+
+-- the head of a line that has no cause, or the cause
+abbrev pub judged_by : Result Head Cause → Option Cause → Result Head Cause
+judged_by head None = head
+judged_by head (Some cause) = Err cause
+
+-- a line behind what is seen: its head, or its lowest cause
+abbrev pub judged : List Text → Seen → Line → Result Head Cause
+judged book s l = judged_by (head_of l) (cause_of book s l)

@@ -22,7 +22,6 @@ entered head.Else k a e text index = index
 entered head.Fi k a e text index = index
 entered (head.Goto j) k a e text index = index
 entered (head.IfSkip t j) k a e text index = index
-entered (head.Faulty c) k a e text index = index
 
 -- the room for the numbers of own phrases behind the index: a guide has none
 abbrev pub own_room : Form → ℕ

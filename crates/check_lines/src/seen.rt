@@ -11,7 +11,7 @@ ghost use Rattle.check_lines.specs.Held.{Sound, Advanced, Passing, line_with};
 use lines::Head;
 
 // The number of own phrases, of instructions, and of ifs that are open.
-#[derive(Clone, Copy)]
+#[derive(Clone, Copy, Debug, PartialEq, Eq)]
 pub struct Seen {
     pub own: usize,
     pub instructions: usize,
@@ -25,10 +25,9 @@ pub fn advance(n: usize, head: Head, s: Seen, opens: &mut [usize; 32]) -> Seen
 {
     match head {
         Head::Phrase => one_more_phrase(s),
-        Head::If { test: _ } => opened(n, s, opens),
+        Head::If { .. } => opened(n, s, opens),
         Head::Else => turned(s, opens),
         Head::Fi => closed(s),
-        Head::Faulty { cause: _ } => s,
         _ => one_more_instruction(s),
     }
 }
@@ -37,18 +36,20 @@ fn one_more_phrase(s: Seen) -> Seen
     requires { s.own < most_own }
     ensures { (n : ℕ) (x : Text) (os : List ℕ) → Sound s os → Advanced (check.next n (line.phrase x)) s os result os }
 {
-    let mut t = s;
-    t.own = s.own + 1;
-    t
+    Seen {
+        own: s.own + 1,
+        ..s
+    }
 }
 
 fn one_more_instruction(s: Seen) -> Seen
     requires { s.instructions < most_instructions }
     ensures { (os : List ℕ) → Sound s os → Advanced (λ t. check.one_more_instruction t.ifs t) s os result os }
 {
-    let mut t = s;
-    t.instructions = s.instructions + 1;
-    t
+    Seen {
+        instructions: s.instructions + 1,
+        ..s
+    }
 }
 
 // One if more, at line n.
@@ -56,13 +57,13 @@ fn opened(n: usize, s: Seen, opens: &mut [usize; 32]) -> Seen
     requires { (s.instructions < most_instructions) × (s.depth < most_levels) × Sound s opens.old }
     ensures { (x : test.Test) → Advanced (check.next n (line.if_line x)) s opens.old result opens.new }
 {
-    let depth = s.depth;
-    opens[depth] = n;
-    opens[depth + 16] = 0;
-    let mut inside = s;
-    inside.depth = depth + 1;
-    inside.instructions = s.instructions + 1;
-    inside
+    opens[s.depth] = n;
+    opens[s.depth + 16] = 0;
+    Seen {
+        instructions: s.instructions + 1,
+        depth: s.depth + 1,
+        ..s
+    }
 }
 
 // The `else` of the innermost if.
@@ -70,11 +71,11 @@ fn turned(s: Seen, opens: &mut [usize; 32]) -> Seen
     requires { (s.instructions < most_instructions) × (0 < s.depth) × Sound s opens.old }
     ensures { (n : ℕ) → Advanced (check.next n line.else_line) s opens.old result opens.new }
 {
-    let depth = s.depth;
-    opens[depth - 1 + 16] = 1;
-    let mut other = s;
-    other.instructions = s.instructions + 1;
-    other
+    opens[s.depth - 1 + 16] = 1;
+    Seen {
+        instructions: s.instructions + 1,
+        ..s
+    }
 }
 
 // The `fi` of the innermost if.
@@ -82,7 +83,8 @@ fn closed(s: Seen) -> Seen
     requires { 0 < s.depth }
     ensures { (n : ℕ) (os : List ℕ) → Sound s os → Advanced (check.next n line.fi_line) s os result os }
 {
-    let mut t = s;
-    t.depth = s.depth - 1;
-    t
+    Seen {
+        depth: s.depth - 1,
+        ..s
+    }
 }

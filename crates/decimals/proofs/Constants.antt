@@ -3,7 +3,8 @@ use Prim.Native.Nat.{ℕ, zero, suc, ◌<◌, ◌≤◌}
 use mathlib.Core.Path.{◌≡◌, refl, ◌∙◌}
 use mathlib.Core.List.{List, [], ◌∷◌}
 use mathlib.Core.Bool.{Bool, true, false, cond}
-use mathlib.Core.Option.{Option, none, some, none-ne-some}
+use Rattle.std.specs.Prelude.{Option, None, Some}
+use Rattle.std.proofs.lemmas.Option.{none-some}
 use native.Mathlib.Omega.{arith}
 use lib.ListN.{length}
 use lib.Dec.{eqb}
@@ -22,34 +23,34 @@ unsigned (b ∷ s) h =
     let l = digit-bounds b (all_first is_digit b s (natural-digits (b ∷ s) h)) in
     rw (ne_eqb b minus (λ e. omega arith))
 
-pub constant-read : (c : ℤ) → mag c < 2147483648 → constant (decimal c) ≡ some c
+pub constant-read : (c : ℤ) → mag c < 2147483648 → constant (decimal c) ≡ Some c
 unfolding constant decimal
 constant-read (pos n) h = unsigned (decimalℕ n) (decimalℕ-natural n) ∙ rw (natural-read 2147483647 n (omega arith))
 constant-read (negsuc n) h = rw (natural-read 2147483648 (suc n) (omega arith))
 
-pub constant-written : (s : List ℕ) (c : ℤ) → constant s ≡ some c → (decimal c ≡ s) × (mag c < 2147483648)
+pub constant-written : (s : List ℕ) (c : ℤ) → constant s ≡ Some c → (decimal c ≡ s) × (mag c < 2147483648)
 unfolding constant decimal
-constant-written [] c h = absurd (none-ne-some c h)
+constant-written [] c h = absurd (none-some c h)
 constant-written (b ∷ s) c h = go (eqb b minus) refl h
   where
-    below : (o : Option ℕ) → natural 2147483648 s ≡ o → eqb b minus ≡ true → negative o ≡ some c
+    below : (o : Option ℕ) → natural 2147483648 s ≡ o → eqb b minus ≡ true → negative o ≡ Some c
         → (decimal c ≡ b ∷ s) × (mag c < 2147483648)
-    below none e m q = absurd (none-ne-some c q)
-    below (some zero) e m q = absurd (none-ne-some c q)
-    below (some (suc n)) e m q =
+    below None e m q = absurd (none-some c q)
+    below (Some zero) e m q = absurd (none-some c q)
+    below (Some (suc n)) e m q =
         let v : negsuc n ≡ c = cc in
         let w = natural-written 2147483648 s (suc n) e in
         rw (← v) (rw (eqb-true b minus m, w.0) refl, omega arith)
 
-    above : (o : Option ℕ) → natural 2147483647 (b ∷ s) ≡ o → positive o ≡ some c → (decimal c ≡ b ∷ s) × (mag c < 2147483648)
-    above none e q = absurd (none-ne-some c q)
-    above (some n) e q =
+    above : (o : Option ℕ) → natural 2147483647 (b ∷ s) ≡ o → positive o ≡ Some c → (decimal c ≡ b ∷ s) × (mag c < 2147483648)
+    above None e q = absurd (none-some c q)
+    above (Some n) e q =
         let v : pos n ≡ c = cc in
         let w = natural-written 2147483647 (b ∷ s) n e in
         rw (← v) (w.0, omega arith)
 
     go : (t : Bool) → eqb b minus ≡ t
-        → cond t (negative (natural 2147483648 s)) (positive (natural 2147483647 (b ∷ s))) ≡ some c
+        → cond t (negative (natural 2147483648 s)) (positive (natural 2147483647 (b ∷ s))) ≡ Some c
         → (decimal c ≡ b ∷ s) × (mag c < 2147483648)
     go true e q = below (natural 2147483648 s) refl e q
     go false e q = above (natural 2147483647 (b ∷ s)) refl q

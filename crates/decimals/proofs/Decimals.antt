@@ -3,7 +3,8 @@ use Prim.Native.Nat.{ℕ, zero, suc, ◌+◌, ◌*◌, ◌-◌, ◌/◌, ◌%◌
 use mathlib.Core.Path.{◌≡◌, refl, sym, ap, ◌∙◌}
 use mathlib.Core.List.{List, [], ◌∷◌, ◌++◌, append_assoc, append-nil}
 use mathlib.Core.Bool.{Bool, true, false, cond, not, ◌&&◌}
-use mathlib.Core.Option.{none, some, none-ne-some}
+use Rattle.std.specs.Prelude.{None, Some}
+use Rattle.std.proofs.lemmas.Option.{none-some}
 use native.Mathlib.Nat.{pow-suc}
 use native.Mathlib.Omega.{arith}
 use lib.ListN.{length, length-append}
@@ -96,17 +97,17 @@ digits_same (b ∷ c ∷ s) h =
     ∙ rw e
 
 -- what is read as n is how n is written
-pub natural-written : (limit : ℕ) (s : List ℕ) (n : ℕ) → natural limit s ≡ some n → (decimalℕ n ≡ s) × (n ≤ limit)
+pub natural-written : (limit : ℕ) (s : List ℕ) (n : ℕ) → natural limit s ≡ Some n → (decimalℕ n ≡ s) × (n ≤ limit)
 unfolding natural
 natural-written limit s n h = go (is_natural s && leb (value_from 0 s) limit) refl h
   where
-    go : (b : Bool) → (is_natural s && leb (value_from 0 s) limit) ≡ b → cond b (some (value_from 0 s)) none ≡ some n
+    go : (b : Bool) → (is_natural s && leb (value_from 0 s) limit) ≡ b → cond b (Some (value_from 0 s)) None ≡ Some n
         → (decimalℕ n ≡ s) × (n ≤ limit)
     go true e q =
         let k = and_parts (is_natural s) (leb (value_from 0 s) limit) e in
         let v : value_from 0 s ≡ n = cc in
         (rw (← v) (digits_same s k.0), rw (← v) (leb-true (value_from 0 s) limit k.1))
-    go false e q = absurd (none-ne-some n q)
+    go false e q = absurd (none-some n q)
 
 -- ---- written, then read
 
@@ -151,7 +152,7 @@ spells (suc f) n h = go (ltb n 10) refl (λ l. spells f (n / 10) (omega arith))
         rw more-digits (rw q at (spells-more {d = n % 10} (r l) (omega arith) (omega arith)))
 
 -- what is written for n is read as n
-pub natural-read : (limit n : ℕ) → n ≤ limit → natural limit (decimalℕ n) ≡ some n
+pub natural-read : (limit n : ℕ) → n ≤ limit → natural limit (decimalℕ n) ≡ Some n
 unfolding natural
 natural-read limit n h = let w = spells n n (omega arith) in rw (w.natural, w.value, le-leb n limit h)
 

@@ -2,5 +2,4 @@ pub mod Decimals
 pub mod Constants
 pub mod DecimalBytes
 pub mod Reading
-pub mod Answers
 pub mod Signs

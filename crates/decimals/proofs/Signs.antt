@@ -5,21 +5,21 @@ use native.Mathlib.Numerals.{add-one, sub-one}
 use mathlib.Core.Path.{◌≡◌, refl}
 use mathlib.Core.List.{List, [], ◌∷◌, ◌++◌}
 use mathlib.Core.Bool.{true, false}
-use mathlib.Core.Option.{none, some}
+use Rattle.std.specs.Prelude.{None, Some}
 use lib.ListN.{length, take, drop, get_or}
 use lib.Seq.{take_all}
 use lib.Dec.{leb-zero}
-use lib.IntN.{ℤ, pos, negsuc}
-use lib.Signed.{le_z}
+use lib.IntN.{ℤ, pos, negsuc, nat_abs}
+use lib.Signed.{le_z, lt_z}
 use mir.Syntax.{w32}
 use mir.Val.{SFits, to_z, of_z, bits}
 use mir.Facts.{to_z-of_z, to_z_pos, to_z-neg}
-use borrow.Author.Tests.{eq-eqb, ne_eqb}
+use borrow.Author.Tests.{eq-eqb, ne_eqb, ltb-true}
 use Rattle.decimals.specs.Number.{natural, positive, negative, constant, decimalℕ, decimal, minus}
 
 -- ---- how a constant is read
 
-pub constant-none : (s : List ℕ) → length s ≡ 0 → constant s ≡ none
+pub constant-none : (s : List ℕ) → length s ≡ 0 → constant s ≡ None
 unfolding constant
 constant-none [] h = refl
 constant-none (b ∷ s) h = absurd (omega arith)
@@ -36,7 +36,7 @@ unfolding constant
 constant-minus [] h e = absurd (h refl)
 constant-minus (b ∷ s) h e = rw (eq-eqb b minus e, take_all (suc (length s) - 1) s (omega arith))
 
-pub negative-some : (n : ℕ) → (n ≡ 0 → ⊥) → negative (some n) ≡ some (negsuc (n - 1))
+pub negative-some : (n : ℕ) → (n ≡ 0 → ⊥) → negative (Some n) ≡ Some (negsuc (n - 1))
 negative-some zero h = absurd (h refl)
 negative-some (suc n) h = rw sub-one
 
@@ -71,3 +71,17 @@ signed (pos n) f h = let k = rw (to_z-of_z f, leb-zero) at h in let z : ◌≡�
 signed (negsuc n) f h =
     let e : 4294967295 - (2 ^ bits w32 - suc n) ≡ n = omega (arith, f.sfits) in
     record { less = n; held = rw e (to_z_pos w32 f.sfits); small = f.sfits; written = rw add-one }
+
+-- v as its bits hold it, without its sign
+abbrev size_of : ℤ → ℕ
+size_of v = nat_abs (to_z w32 (of_z w32 v))
+
+pub decimal-plain : (v : ℤ) → SFits w32 v → lt_z (to_z w32 (of_z w32 v)) (pos 0) ≡ false → decimal v ≡ decimalℕ (size_of v)
+unfolding decimal
+decimal-plain (pos n) f h = rw (to_z-of_z f)
+decimal-plain (negsuc n) f h = let k = rw (to_z-of_z f) at h in cc
+
+pub decimal-minus : (v : ℤ) → SFits w32 v → lt_z (to_z w32 (of_z w32 v)) (pos 0) ≡ true → decimal v ≡ (minus ∷ []) ++ decimalℕ (size_of v)
+unfolding decimal
+decimal-minus (pos n) f h = let k = ltb-true n 0 (rw (to_z-of_z f) at h) in absurd (omega arith)
+decimal-minus (negsuc n) f h = rw (to_z-of_z f)

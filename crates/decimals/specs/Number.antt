@@ -1,6 +1,5 @@
 -- Document 01, "Guide lines": registers, constants and skips in decimal. "Numbers carry no plus sign, no leading zero and no `-0`."
-use Rattle.std.specs.Prelude.{ℕ, zero, suc, ◌+◌, ◌*◌, ◌-◌, ◌/◌, ◌%◌, List, [], ◌∷◌, ◌++◌, Bool, true, false, cond, not, ◌&&◌, leb, ltb, eqb, ℤ, pos, negsuc}
-use Rattle.std.proofs.Math.Option.{Option, none, some}
+use Rattle.std.specs.Prelude.{ℕ, zero, suc, ◌+◌, ◌*◌, ◌-◌, ◌/◌, ◌%◌, List, [], ◌∷◌, ◌++◌, Bool, true, false, cond, not, ◌&&◌, leb, ltb, eqb, ℤ, pos, negsuc, Option, None, Some}
 use Rattle.text.specs.Parts.{all}
 
 -- `0` is 48, `9` is 57, `-` is 45
@@ -24,7 +23,7 @@ is_natural (b ∷ c ∷ s) = is_digit b && not (eqb b 48) && all is_digit (c ∷
 
 -- a number from 0 to the limit
 unfoldable pub natural : ℕ → List ℕ → Option ℕ
-natural limit s = cond (is_natural s && leb (value_from 0 s) limit) (some (value_from 0 s)) none
+natural limit s = cond (is_natural s && leb (value_from 0 s) limit) (Some (value_from 0 s)) None
 
 -- "R is a reading's register, 0 to 31"
 abbrev pub register : List ℕ → Option ℕ
@@ -36,18 +35,18 @@ skip s = natural 511 s
 
 -- a number without a sign
 abbrev pub positive : Option ℕ → Option ℤ
-positive none = none
-positive (some n) = some (pos n)
+positive None = None
+positive (Some n) = Some (pos n)
 
 -- "no `-0`"
 abbrev pub negative : Option ℕ → Option ℤ
-negative none = none
-negative (some zero) = none
-negative (some (suc n)) = some (negsuc n)
+negative None = None
+negative (Some zero) = None
+negative (Some (suc n)) = Some (negsuc n)
 
 -- "C is a constant, −2147483648 to 2147483647"
 unfoldable pub constant : List ℕ → Option ℤ
-constant [] = none
+constant [] = None
 constant (b ∷ s) = cond (eqb b minus) (negative (natural 2147483648 s)) (positive (natural 2147483647 (b ∷ s)))
 
 -- the digits of n, the highest first; a fuel of n is enough

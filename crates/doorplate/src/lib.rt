@@ -11,9 +11,11 @@ ghost use Rattle.walking.specs.Call.{walk_call};
 ghost use Rattle.running.specs.Call.{run_call};
 ghost use Rattle.doorplate.specs.Values.{written_values, ran_values, WrittenIs, RanIs};
 
+use causes::{Ran, Written};
+
 // doorplate_written in C: number 0 and the length, or a refusal's number and place.
 #[repr(C)]
-#[derive(Clone, Copy)]
+#[derive(Clone, Copy, Debug, PartialEq, Eq)]
 pub struct WrittenValues {
     pub number: u32,
     pub place: u64,
@@ -22,7 +24,7 @@ pub struct WrittenValues {
 
 // doorplate_ran in C: number 0 and the record of the run, or a refusal's number and place.
 #[repr(C)]
-#[derive(Clone, Copy)]
+#[derive(Clone, Copy, Debug, PartialEq, Eq)]
 pub struct RanValues {
     pub number: u32,
     pub place: u64,
@@ -34,54 +36,49 @@ pub struct RanValues {
 }
 
 // The values of an answer of translate, write_plate or read_plate.
-fn written_values(answer: causes::Written) -> WrittenValues
-    ensures { result ≡ written_values (written_answer answer) }
-{
-    match answer {
-        causes::Written::Done(length) => WrittenValues {
-            number: 0,
-            place: 0,
-            length: length as u64,
-        },
-        causes::Written::Refused(r) => {
-            let cause = r.cause;
-            WrittenValues {
-                number: causes::number_of(cause),
+impl From<Written> for WrittenValues {
+    ghost from_gives = { λ answer values. values ≡ written_values (written_answer answer) };
+
+    fn from(answer: Written) -> WrittenValues {
+        match answer {
+            Ok(length) => WrittenValues {
+                number: 0,
+                place: 0,
+                length: length as u64,
+            },
+            Err(r) => WrittenValues {
+                number: u32::from(r.cause),
                 place: r.place as u64,
                 length: 0,
-            }
+            },
         }
     }
 }
 
 // The values of an answer of walk or run.
-fn ran_values(answer: causes::Ran) -> RanValues
-    ensures { result ≡ ran_values (ran_answer answer) }
-{
-    match answer {
-        causes::Ran::Done(report) => {
-            let outcome = report.outcome;
-            RanValues {
+impl From<Ran> for RanValues {
+    ghost from_gives = { λ answer values. values ≡ ran_values (ran_answer answer) };
+
+    fn from(answer: Ran) -> RanValues {
+        match answer {
+            Ok(report) => RanValues {
                 number: 0,
                 place: 0,
                 length: report.length as u64,
-                outcome: causes::outcome_of(outcome),
+                outcome: u32::from(report.outcome),
                 taken: report.taken as u64,
                 steps: report.steps as u64,
-                wrong: causes::wrong_of(outcome),
-            }
-        }
-        causes::Ran::Refused(r) => {
-            let cause = r.cause;
-            RanValues {
-                number: causes::number_of(cause),
+                wrong: report.outcome.wrong(),
+            },
+            Err(r) => RanValues {
+                number: u32::from(r.cause),
                 place: r.place as u64,
                 length: 0,
                 outcome: 0,
                 taken: 0,
                 steps: 0,
                 wrong: 0,
-            }
+            },
         }
     }
 }
@@ -90,21 +87,21 @@ fn ran_values(answer: causes::Ran) -> RanValues
 pub fn doorplate_translate(guide: &[u8], book: &[u8], plate: &mut [u8]) -> WrittenValues
     ensures { WrittenIs result plate.new (translate_call guide.now book.now plate.old) }
 {
-    written_values(translate::translate(guide, book, plate))
+    translate::translate(guide, book, plate).into()
 }
 
 // The plate of a listing.
 pub fn doorplate_write_plate(listing: &[u8], book: &[u8], plate: &mut [u8]) -> WrittenValues
     ensures { WrittenIs result plate.new (write_plate_call listing.now book.now plate.old) }
 {
-    written_values(write_plate::write_plate(listing, book, plate))
+    write_plate::write_plate(listing, book, plate).into()
 }
 
 // The listing of a plate.
 pub fn doorplate_read_plate(plate: &[u8], book: &[u8], listing: &mut [u8]) -> WrittenValues
     ensures { WrittenIs result listing.new (read_plate_call plate.now book.now listing.old) }
 {
-    written_values(read_plate::read_plate(plate, book, listing))
+    read_plate::read_plate(plate, book, listing).into()
 }
 
 // The transcript of a guide, walked on the answers.
@@ -116,7 +113,7 @@ pub fn doorplate_walk(
 ) -> RanValues
     ensures { RanIs result transcript.new (walk_call guide.now book.now answers.now transcript.old) }
 {
-    ran_values(walk::walk(guide, book, answers, transcript))
+    walk::walk(guide, book, answers, transcript).into()
 }
 
 // The transcript of a plate, run on the answers.
@@ -130,5 +127,5 @@ pub fn doorplate_run(
     ensures ran_is { RanIs result transcript.new (run_call plate.now book.now answers.now (length scratch.old) transcript.old) }
     ensures scratch_unchanged { scratch.new ≡ scratch.old }
 {
-    ran_values(run::run(plate, book, answers, scratch, transcript))
+    run::run(plate, book, answers, scratch, transcript).into()
 }

@@ -12,7 +12,7 @@ use borrow.Author.Tests.{leb-true}
 use Rattle.causes.specs.declared.Cause.TheVariants.{PlateEnds}
 use Rattle.bits.specs.Bits.{bytes_bits}
 use Rattle.bits.specs.Ahead.{ahead_in, part_ahead}
-use Rattle.bits.specs.declared.Number.TheVariants.{Is}
+use Rattle.std.specs.Prelude.{Some}
 use Rattle.bits.proofs.Bytes.{length-bytes_bits}
 use Rattle.bits.proofs.Reading.{number-in}
 use Rattle.bits_ahead.proofs.Ahead.{part-value}
@@ -37,7 +37,7 @@ known-part plate ahead at k w e few known =
     let bits = drop (at + k) (bytes_bits plate) in
     let enough : w ≤ length bits = omega (arith, room, length-drop (at + k) (bytes_bits plate), length-bytes_bits plate) in
     let value = ap (part_ahead k w) e ∙ part-value plate at k w few room in
-    sym (number-there plate (at + k) w (part_ahead k w ahead) (number-in w bits enough ∙ ap Is (sym value)))
+    sym (number-there plate (at + k) w (part_ahead k w ahead) (number-in w bits enough ∙ ap Some (sym value)))
 
 -- the same, where it is told by its bit and the bit behind it
 module _ (plate : List ℕ) (at : ℕ) {ahead : ℕ} (e : ahead ≡ ahead_in plate at) (k w : ℕ) (fits : k + w ≤ 25) where

@@ -2,4 +2,4 @@ pub mod Onward
 pub mod Ahead
 pub mod Behind
 pub mod Copies
-pub mod Answers
+pub mod Exits

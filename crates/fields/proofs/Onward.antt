@@ -11,7 +11,7 @@ use Rattle.causes.specs.declared.Cause.{Cause}
 use Rattle.causes.specs.declared.Cause.TheVariants.{PlateEnds}
 use Rattle.bits.specs.Bits.{bytes_bits}
 use Rattle.bits.specs.Number.{number_in}
-use Rattle.bits.specs.declared.Number.TheVariants as numbers
+use Rattle.std.specs.Prelude.{Some, None}
 use Rattle.bits.proofs.Bytes.{length-bytes_bits}
 use Rattle.bits.proofs.Reading.{number_fits, number-ends, number_is}
 use Rattle.plate.specs.Reading.{Place, Read, got, stopped, Reader, number, judge_read, judged, onward, ◌>>=◌}
@@ -63,7 +63,7 @@ got-good {w = w} {ok = ok} p g e = (subst (Told p w ok) (sym e) (g.tells p p (he
 -- ---- a number at a bit of a plate
 
 module _ (plate : List ℕ) (at w : ℕ) where
-  pub number-there : (v : ℕ) → number_in w (drop at (bytes_bits plate)) ≡ numbers.Is v
+  pub number-there : (v : ℕ) → number_in w (drop at (bytes_bits plate)) ≡ Some v
       → got v (place_at plate (at + w)) ≡ number w (place_at plate at)
   unfolding place_at
   number-there v e =
@@ -72,10 +72,10 @@ module _ (plate : List ℕ) (at w : ℕ) where
       (λ i. got (number_is w bits v e i) (record { left = rest i; at = at + w }))
       ∙ sym (number-got w (place_at plate at) (number_fits w bits v e))
 
-  pub number_cut : number_in w (drop at (bytes_bits plate)) ≡ numbers.Ends → stopped PlateEnds at ≡ number w (place_at plate at)
+  pub number_cut : number_in w (drop at (bytes_bits plate)) ≡ None → stopped PlateEnds at ≡ number w (place_at plate at)
   unfolding place_at number
   number_cut e = rw (lt-leb w (length (drop at (bytes_bits plate))) (number-ends w (drop at (bytes_bits plate)) e))
 
   -- the bit behind it is again a place
-  pub number-end : (v : ℕ) → number_in w (drop at (bytes_bits plate)) ≡ numbers.Is v → w ≤ length plate * 8 - at
+  pub number-end : (v : ℕ) → number_in w (drop at (bytes_bits plate)) ≡ Some v → w ≤ length plate * 8 - at
   number-end v e = omega (arith, number_fits w (drop at (bytes_bits plate)) v e, length-drop at (bytes_bits plate), length-bytes_bits plate)

@@ -1,53 +1,21 @@
 -- What the code's answers stand for: a place of a plate by its bit, and the fields that are read there.
-use Rattle.std.specs.Prelude.{ℕ, zero, suc, ◌≡◌, List, [], ◌∷◌, Bool, length, take, drop, ℤ}
-use Rattle.transcript.specs.declared.Test.{Test}
+use Rattle.std.specs.Prelude.{ℕ, zero, suc, ◌≡◌, List, [], ◌∷◌, Bool, Result, Ok, Err, length, take, drop}
 use Rattle.causes.specs.declared.Refusal.{Refusal}
 use Rattle.causes.specs.declared.Cause.{Cause}
-use Rattle.causes.specs.declared.Cause.TheVariants.{PlateEnds}
 use Rattle.bits.specs.Bits.{value_of, bytes_bits}
 use Rattle.text.specs.Text.{Text}
 use Rattle.plate.specs.Reading.{Place, Read, got, stopped, Reader}
 use Rattle.plate.specs.Plate.{characters}
-use Rattle.fields.specs.declared.Field as field
-use Rattle.fields.specs.declared.Field.TheVariants as fields
-use Rattle.fields.specs.declared.ConstantRead as constant_field
-use Rattle.fields.specs.declared.ConstantRead.TheVariants as constants
-use Rattle.fields.specs.declared.TestRead as test_field
-use Rattle.fields.specs.declared.TestRead.TheVariants as tests
+use Rattle.fields.specs.declared.Field.{Field}
 
 -- the place at a bit of a plate
 unfoldable pub place_at : List ℕ → ℕ → Place
 place_at plate at = record { left = drop at (bytes_bits plate); at = at }
 
--- a field that the code read
-abbrev pub field_read : List ℕ → field.Field → Read ℕ
-field_read plate (fields.Is v next) = got v (place_at plate next)
-field_read plate (fields.Refused r) = stopped r.cause r.place
-
--- the refusal that a field is; nothing asks it of a value
-abbrev pub refusal_of : field.Field → Refusal
-refusal_of (fields.Is v next) = record { cause = PlateEnds; place = next }
-refusal_of (fields.Refused r) = r
-
--- a constant that the code read
-abbrev pub constant_read : List ℕ → constant_field.ConstantRead → Read ℤ
-constant_read plate (constants.Is c next) = got c (place_at plate next)
-constant_read plate (constants.Refused r) = stopped r.cause r.place
-
--- the refusal that a constant is; nothing asks it of a value
-abbrev pub constant_refusal : constant_field.ConstantRead → Refusal
-constant_refusal (constants.Is c next) = record { cause = PlateEnds; place = next }
-constant_refusal (constants.Refused r) = r
-
--- the R, OP and C that the code read
-abbrev pub test_read : List ℕ → test_field.TestRead → Read Test
-test_read plate (tests.Is t next) = got t (place_at plate next)
-test_read plate (tests.Refused r) = stopped r.cause r.place
-
--- the refusal that an if's R, OP and C are; nothing asks it of a value
-abbrev pub test_refusal : test_field.TestRead → Refusal
-test_refusal (tests.Is t next) = record { cause = PlateEnds; place = next }
-test_refusal (tests.Refused r) = r
+-- a field that the code read: the value and the bit behind it, or a refusal
+abbrev pub field_read : {A : Type 0} → List ℕ → Result (Field A) Refusal → Read A
+field_read plate (Ok f) = got f.value (place_at plate f.next)
+field_read plate (Err r) = stopped r.cause r.place
 
 -- n characters of w bits from the front of the bits
 unfoldable pub characters_in : ℕ → ℕ → List Bool → Text
@@ -59,9 +27,9 @@ abbrev pub until_etx : ℕ → Reader Text
 until_etx w p = characters w (length p.left) p
 
 -- a text that the code read from a bit on, by its size in characters of w bits
-abbrev pub size_read : ℕ → List ℕ → ℕ → field.Field → Read Text
-size_read w plate bit (fields.Is size next) = got (characters_in w size (drop bit (bytes_bits plate))) (place_at plate next)
-size_read w plate bit (fields.Refused r) = stopped r.cause r.place
+abbrev pub size_read : ℕ → List ℕ → ℕ → Result (Field ℕ) Refusal → Read Text
+size_read w plate bit (Ok f) = got (characters_in w f.value (drop bit (bytes_bits plate))) (place_at plate f.next)
+size_read w plate bit (Err r) = stopped r.cause r.place
 
 -- what was read, by its size
 abbrev pub measured : {A : Type 0} → (A → ℕ) → Read A → Read ℕ

@@ -5,35 +5,18 @@
 #![tactic(auto)]
 
 mod numbers;
-mod refusals;
 
-use causes::Refusal;
 pub use numbers::{plain_ahead, read_field, read_plain, read_skip};
-use transcript::Test;
 
-// What reading a field finds: the value and the bit behind it, or a refusal at the field's first bit.
-#[derive(Clone, Copy)]
-pub enum Field {
-    Is(usize, usize),
-    Refused(Refusal),
-}
-
-// What reading a constant finds: the constant and the bit behind it, or a refusal.
-#[derive(Clone, Copy)]
-pub enum ConstantRead {
-    Is(i32, usize),
-    Refused(Refusal),
-}
-
-// What reading the R, OP and C of an if finds: these and the bit behind them, or a refusal.
-#[derive(Clone, Copy)]
-pub enum TestRead {
-    Is(Test, usize),
-    Refused(Refusal),
+// A value that was read at a bit of the plate, and the bit behind it.
+#[derive(Clone, Copy, Debug, PartialEq, Eq)]
+pub struct Field<T> {
+    pub value: T,
+    pub next: usize,
 }
 
 // What was copied from a plate into a buffer: where its bytes end in the buffer, and the bit behind it on the plate.
-#[derive(Clone, Copy)]
+#[derive(Clone, Copy, Debug, PartialEq, Eq)]
 pub struct Copied {
     pub end: usize,
     pub next: usize,

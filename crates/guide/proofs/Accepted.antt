@@ -1,10 +1,10 @@
 -- What an accepted guide is: its lines are those of one block, its values meet the rules, and it has no own phrases.
 use Prim.Native.Nat.{ℕ, suc}
-use mathlib.Core.Path.{◌≡◌, refl, ◌∙◌}
-use native.Mathlib.Omega.{arith}
+use mathlib.Core.Path.{◌≡◌, refl, sym, ◌∙◌}
 use mathlib.Core.List.{List, [], ◌∷◌}
 use mathlib.Core.Bool.{false, true≢false}
-use mathlib.Core.Option.{none, some-ne-none}
+use Rattle.std.specs.Prelude.{None, Ok}
+use Rattle.std.proofs.lemmas.Option.{none-some}
 use lib.ListN.{drop}
 use Rattle.causes.specs.Answers.{Result, made, refused}
 use Rattle.text.specs.Text.{Text}
@@ -17,7 +17,7 @@ use Rattle.lines.proofs.Valid.{ValidLine, LinesOk}
 use Rattle.lines.proofs.Passes.{Passes}
 use Rattle.lines.proofs.Kept.{else-allowed, guide-own}
 use Rattle.lines.proofs.Accepts.{accepts}
-use Rattle.lines.specs.declared.Checked.TheVariants.{Fine}
+use Rattle.lines.specs.declared.Counts.{Counts}
 use Rattle.lines.specs.Answers.{seen_in, checked_answer}
 use Rattle.lines.specs.Clean.{Clean}
 use Rattle.lines.proofs.CleanTexts.{passes-clean, seen_clean}
@@ -60,19 +60,19 @@ if_ok n test t ifs [] v h = absurd h.1
 if_ok n test t ifs (fi_then rest ∷ behind) v h = ((v, h.0, h.1.0), h.1.1)
 if_ok n test t ifs (else_then e rest ∷ behind) v h = ((v, h.0, h.1.1, h.1.2), h.1.3)
 
-else-ok : (e : Block) (s : Seen) (ifs : List Open) (behind : List Behind) → else_cause ifs (room_cause s) ≡ none
+else-ok : (e : Block) (s : Seen) (ifs : List Open) (behind : List Behind) → else_cause ifs (room_cause s) ≡ None
     → ParsedOk (turn ifs) (parsed e behind) → ParsedOk ifs (else_with e behind)
-else-ok e s [] behind c h = absurd (some-ne-none _ c)
+else-ok e s [] behind c h = absurd (none-some _ (sym c))
 else-ok e s (o ∷ os) [] c h = absurd h.1
 else-ok e s (o ∷ os) (fi_then rest ∷ behind) c h = (tt, ((else-allowed o os (room_cause s) c).0, h.0, h.1.0, h.1.1))
 else-ok e s (o ∷ os) (else_then e' rest ∷ behind) c h = absurd (true≢false h.1.0)
 
-fi-ok : (b : Block) (ifs : List Open) (behind : List Behind) → fi_cause ifs ≡ none → ParsedOk (drop 1 ifs) (parsed b behind)
+fi-ok : (b : Block) (ifs : List Open) (behind : List Behind) → fi_cause ifs ≡ None → ParsedOk (drop 1 ifs) (parsed b behind)
     → ParsedOk ifs (parsed empty (fi_then b ∷ behind))
-fi-ok b [] behind c h = absurd (some-ne-none _ c)
+fi-ok b [] behind c h = absurd (none-some _ (sym c))
 fi-ok b (o ∷ os) behind c h = (tt, h)
 
-line_ok : (book : List Text) (n : ℕ) (s : Seen) (l : Line) (p : Parsed) → ValidLine a_guide l → cause_of book s l ≡ none
+line_ok : (book : List Text) (n : ℕ) (s : Seen) (l : Line) (p : Parsed) → ValidLine a_guide l → cause_of book s l ≡ None
     → ParsedOk (next n l s).ifs p → ParsedOk s.ifs (line_then l p)
 line_ok book n s l unmatched v c h = h
 line_ok book n s (phrase t) (parsed b behind) v c h = h
@@ -119,10 +119,10 @@ accepted-guide book text a e =
     }
 
 -- no line of a guide that the check accepts is a fault
-pub accepted-clean : (book : List Text) (g : List ℕ) (own instructions : ℕ) → checked_answer (seen_in a_guide book g) ≡ Fine own instructions
+pub accepted-clean : (book : List Text) (g : List ℕ) (c : Counts) → checked_answer (seen_in a_guide book g) ≡ Ok c
     → Clean a_guide g
-accepted-clean book g own instructions = go (seen_in a_guide book g) refl
+accepted-clean book g c = go (seen_in a_guide book g) refl
   where
-    go : (r : Result Seen) → seen_in a_guide book g ≡ r → checked_answer r ≡ Fine own instructions → Clean a_guide g
+    go : (r : Result Seen) → seen_in a_guide book g ≡ r → checked_answer r ≡ Ok c → Clean a_guide g
     go (made s) e h = seen_clean a_guide book g s e
-    go (refused cause place) e h = let z : ◌≡◌ {A = ℕ} 0 1 = cc in absurd (omega arith)
+    go (refused cause place) e h = cc

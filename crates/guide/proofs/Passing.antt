@@ -1,28 +1,15 @@
 -- A block passed over line by line: where it stops, and where it goes on.
-use Prim.Native.Nat.{ℕ, zero, suc, ◌-◌, ◌≤◌, ◌<◌}
+use Prim.Native.Nat.{ℕ, zero, suc, ◌≤◌, ◌<◌}
 use native.Mathlib.Omega.{arith}
-use native.Mathlib.Numerals.{sub-one}
 use mathlib.Core.Path.{◌≡◌, refl, sym, ap, ◌∙◌}
 use mathlib.Core.List.{List, [], ◌∷◌}
 use mathlib.Core.Bool.{Bool, true, false, true≢false}
 use lib.ListN.{length, drop}
-use lib.Dec.{eqb}
-use borrow.Author.Tests.{eq-eqb, ne_eqb}
 use Rattle.lines.specs.Line.{Line}
 use Rattle.guide.specs.declared.Role.{Role}
 use Rattle.guide.specs.declared.Role.TheVariants.{Statement, If, Else, Fi, Nothing}
 use Rattle.guide.specs.Lines.{role_of, lines_at, first_role, stops, open_behind, pass, Reads}
 use Rattle.guide.proofs.Reading.{some-line, rest-no-more}
-
--- ---- the tests
-
-pub zero-stops : (d : ℕ) → eqb d 0 ≡ stops Else d
-zero-stops zero = eq-eqb 0 0 refl
-zero-stops (suc d) = ne_eqb (suc d) 0 (λ e. omega arith)
-
-pub fi-closes : (d : ℕ) → d - 1 ≡ open_behind Fi d
-fi-closes zero = refl
-fi-closes (suc d) = sub-one (suc d)
 
 pub open_more : (r : Role) (d : ℕ) → open_behind r d ≤ suc d
 open_more Statement d = omega arith

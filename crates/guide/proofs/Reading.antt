@@ -5,13 +5,14 @@ use mathlib.Core.Path.{◌≡◌, refl, sym, ap, ◌∙◌}
 use mathlib.Core.List.{List, [], ◌∷◌}
 use mathlib.Core.Bool.{Bool, true, false≢true}
 use lib.ListN.{length, take, drop, get_or, length-drop, drop_of_length-le}
-use Rattle.causes.specs.declared.Cause.TheVariants.{Byte}
+use Rattle.std.specs.Prelude.{Some, Result, Ok, option_map}
+use Rattle.std.proofs.lemmas.Option.{same_Some}
+use Rattle.causes.specs.declared.Cause.{Cause}
 use Rattle.text.specs.Parts.{split, until_byte, same, all, comma, LF}
 use Rattle.text.proofs.Places.{part-last}
 use Rattle.transcript.specs.Statement.{input, inputs, print, printex}
 use Rattle.lines.specs.declared.Form.TheVariants.{Guide as a_guide}
 use Rattle.lines.specs.declared.Head.{Head}
-use Rattle.lines.specs.declared.Head.TheVariants.{Faulty}
 use Rattle.lines.specs.Line.{Line, phrase, says, if_line, else_line, fi_line, goto_line, if_skip_line, faulty, line_of, unended, lines_in}
 use Rattle.lines.specs.Answers.{head_of}
 use Rattle.lines.specs.declared.Kind.{Kind}
@@ -21,22 +22,24 @@ use Rattle.lines.proofs.FieldsRead.{ReadAs, as-fault, as-input, as-inputs, as-pr
 use Rattle.lines.proofs.CleanTexts.{lines_next, clean-behind}
 use Rattle.guide.specs.declared.Role.{Role}
 use Rattle.guide.specs.declared.Role.TheVariants.{Nothing}
-use Rattle.guide.specs.declared.Here.{Here}
-use Rattle.guide.specs.Lines.{role_of, role_by, role_by_kind, begins_by, else_by, lines_at, first_role, First, Reads, ReadsLine}
+use Rattle.guide.specs.Lines.{role_of, role_by, role_by_kind, begins_by, else_by, lines_at, first_role, Reads, ReadsLine}
+
+head-is : {h k : Head} → ◌≡◌ {A = Result Head Cause} (Ok h) (Ok k) → h ≡ k
+head-is e = cc
 
 -- a line's head has the line's role
-pub role-head : (l : Line) → role_by (head_of l) ≡ role_of l
-role-head (phrase t) = refl
-role-head (says (input r t)) = refl
-role-head (says (inputs r t options)) = refl
-role-head (says (print t)) = refl
-role-head (says (printex t)) = refl
-role-head (if_line test) = refl
-role-head else_line = refl
-role-head fi_line = refl
-role-head (goto_line k) = refl
-role-head (if_skip_line test k) = refl
-role-head (faulty c) = refl
+role-head : (l : Line) {h : Head} → Ok h ≡ head_of l → role_by h ≡ role_of l
+role-head (phrase t) e = ap role_by (head-is e)
+role-head (says (input r t)) e = ap role_by (head-is e)
+role-head (says (inputs r t options)) e = ap role_by (head-is e)
+role-head (says (print t)) e = ap role_by (head-is e)
+role-head (says (printex t)) e = ap role_by (head-is e)
+role-head (if_line test) e = ap role_by (head-is e)
+role-head else_line e = ap role_by (head-is e)
+role-head fi_line e = ap role_by (head-is e)
+role-head (goto_line k) e = ap role_by (head-is e)
+role-head (if_skip_line test k) e = ap role_by (head-is e)
+role-head (faulty c) e = cc
 
 at-end : (g : List ℕ) (a : ℕ) → length g ≤ a → lines_at g a ≡ []
 unfolding lines_at lines_in split
@@ -54,7 +57,7 @@ unended-none (b ∷ p) c = absurd (false≢true c)
 
 -- the line at a ends at e, and no line from a on is a fault
 module _ (g : List ℕ) (a e : ℕ) (k : e ≡ a + until_byte LF (drop a g)) (c : Clean a_guide (drop a g)) where
-  no_line : e ≡ length g → lines_at g a ≡ []
+  pub no_line : e ≡ length g → lines_at g a ≡ []
   unfolding lines_at lines_in
   no_line l =
       let p = part-last LF g a e k l in
@@ -72,9 +75,6 @@ module _ (g : List ℕ) (a e : ℕ) (k : e ≡ a + until_byte LF (drop a g)) (c 
         clean = end_clean g e (omega arith);
       }
 
-  pub none-line : e ≡ length g → ReadsLine g a (record { role = Nothing; head = Faulty Byte; start = e; end = e; next = e })
-  none-line l = record { reads = reads_none l; first = λ v. absurd (omega (arith, ap length (no_line l))) }
-
   module _ (l : e < length g) where
     line_first : lines_at g a ≡ line_of a_guide (take (e - a) (drop a g)) ∷ lines_at g (e + 1)
     unfolding lines_at
@@ -91,13 +91,13 @@ module _ (g : List ℕ) (a e : ℕ) (k : e ≡ a + until_byte LF (drop a g)) (c 
           clean = clean-behind a_guide g a e k l c;
         }
 
-    pub reads-line : (h : Head) (r : Role) → h ≡ head_of (line_of a_guide (take (e - a) (drop a g))) → r ≡ role_by h
+    pub reads-line : (h : Head) (r : Role) → Ok h ≡ head_of (line_of a_guide (take (e - a) (drop a g))) → r ≡ role_by h
         → ReadsLine g a (record { role = r; head = h; start = a; end = e; next = e + 1 })
     reads-line h r u w =
-        let role = w ∙ ap role_by u ∙ role-head (line_of a_guide (take (e - a) (drop a g))) in
+        let role = w ∙ role-head (line_of a_guide (take (e - a) (drop a g))) u in
         record {
           reads = reads-role r role;
-          first = λ v. record {
+          first = record {
             lines = line_first;
             stands = record { head = u; role = role; from = omega arith; to = omega arith; within = omega arith };
           };
@@ -105,7 +105,7 @@ module _ (g : List ℕ) (a e : ℕ) (k : e ≡ a + until_byte LF (drop a g)) (c 
 
 -- ---- the role by the kind
 
-read-kind : {fs : List (List ℕ)} {l : Line} → ReadAs a_guide fs l → is_clean l ≡ true → role_by_kind (kind_of (get_or fs 0 [])) ≡ role_of l
+read-kind : {fs : List (List ℕ)} {l : Line} → ReadAs a_guide fs l → is_clean l ≡ true → option_map role_by_kind (kind_of (get_or fs 0 [])) ≡ Some (role_of l)
 unfolding kind_of same
 read-kind (as-fault c) v = absurd (false≢true v)
 read-kind (as-input r h) v = refl
@@ -116,9 +116,9 @@ read-kind (as-if r o c) v = refl
 read-kind as-else v = refl
 read-kind as-fi v = refl
 
-pub role-by-kind : (s : List ℕ) (k : Kind) (r : Role) → is_clean (line_of a_guide s) ≡ true → k ≡ kind_of (get_or (split comma s) 0 [])
+pub role-by-kind : (s : List ℕ) (k : Kind) (r : Role) → is_clean (line_of a_guide s) ≡ true → Some k ≡ kind_of (get_or (split comma s) 0 [])
     → r ≡ role_by_kind k → r ≡ role_of (line_of a_guide s)
-role-by-kind s k r c d w = w ∙ ap role_by_kind d ∙ read-kind (line-read-as a_guide s) c
+role-by-kind s k r c d w = w ∙ same_Some _ _ (ap (option_map role_by_kind) d ∙ read-kind (line-read-as a_guide s) c)
 
 -- ---- the lines behind the one that is read
 
@@ -142,6 +142,3 @@ module _ (g : List ℕ) (a : ℕ) (role : Role) (n : ℕ) (r : Reads g a role n)
 
   pub else-less : else_by role ≡ true → length (lines_at g n) < length (lines_at g a)
   else-less v = one_less (some-line else_by false≢true v)
-
-pub begins-first : (g : List ℕ) (a : ℕ) (h : Here) → ReadsLine g a h → begins_by h.role ≡ true → First g a h
-begins-first g a h r v = r.first (some-line g a h.role h.next r.reads begins_by false≢true v)

@@ -1,5 +1,5 @@
 -- Blocks where they stand: their lines from a place of the guide's text on, and what the code reads of them.
-use Rattle.std.specs.Prelude.{ℕ, zero, suc, ◌-◌, ◌≤◌, ◌<◌, ◌≡◌, List, [], ◌∷◌, Bool, true, false, length, take, drop}
+use Rattle.std.specs.Prelude.{ℕ, zero, suc, ◌-◌, ◌≤◌, ◌<◌, ◌≡◌, List, [], ◌∷◌, Bool, true, false, length, take, drop, Option, None, Some, Ok}
 use Rattle.lines.specs.declared.Form.TheVariants.{Guide as a_guide}
 use Rattle.lines.specs.declared.Head.{Head}
 use Rattle.lines.specs.declared.Head.TheVariants as head
@@ -36,7 +36,6 @@ role_by head.Else = Else
 role_by head.Fi = Fi
 role_by (head.Goto k) = Nothing
 role_by (head.IfSkip test k) = Nothing
-role_by (head.Faulty c) = Nothing
 
 -- the same, by the kind of a line that is no fault
 abbrev pub role_by_kind : Kind → Role
@@ -49,7 +48,6 @@ role_by_kind kind.If = If
 role_by_kind kind.Else = Else
 role_by_kind kind.Fi = Fi
 role_by_kind kind.Goto = Nothing
-role_by_kind kind.Unknown = Nothing
 
 -- a statement or an if, which begins here
 abbrev pub begins_by : Role → Bool
@@ -109,7 +107,7 @@ line_text g h = take (h.end - h.start) (drop h.start g)
 
 -- h is a line of the guide
 pub record Stands (g : List ℕ) (h : Here) : Type 0 where
-  pub head : h.head ≡ head_of (line_of a_guide (line_text g h))
+  pub head : Ok h.head ≡ head_of (line_of a_guide (line_text g h))
   pub role : h.role ≡ role_of (line_of a_guide (line_text g h))
   pub from : h.start ≤ h.end
   pub to : h.end ≤ length g
@@ -132,4 +130,9 @@ pub record Reads (g : List ℕ) (a : ℕ) (r : Role) (n : ℕ) : Type 0 where
 -- the same, with the line
 pub record ReadsLine (g : List ℕ) (a : ℕ) (h : Here) : Type 0 where
   pub reads : Reads g a h.role h.next
-  pub first : 0 < length (lines_at g a) → First g a h
+  pub first : First g a h
+
+-- the line at the place a, if there is one
+abbrev pub LineAt : List ℕ → ℕ → Option Here → Type 0
+LineAt g a None = lines_at g a ≡ []
+LineAt g a (Some h) = ReadsLine g a h

@@ -12,7 +12,7 @@ pub use places::{line_at, pass_over, role_at};
 pub use roles::{begins, is_else};
 
 // What a line is in a block.
-#[derive(Clone, Copy)]
+#[derive(Clone, Copy, Debug, PartialEq, Eq)]
 pub enum Role {
     // `input`, `inputs`, `print` or `printex`.
     Statement,
@@ -24,7 +24,7 @@ pub enum Role {
 }
 
 // A line: its role and its head, where it starts and ends, and where the next line starts.
-#[derive(Clone, Copy)]
+#[derive(Clone, Copy, Debug, PartialEq, Eq)]
 pub struct Here {
     pub role: Role,
     pub head: Head,
@@ -34,7 +34,7 @@ pub struct Here {
 }
 
 // A line's role, and where the next line starts.
-#[derive(Clone, Copy)]
+#[derive(Clone, Copy, Debug, PartialEq, Eq)]
 pub struct LineRole {
     pub role: Role,
     pub next: usize,

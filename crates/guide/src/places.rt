@@ -3,36 +3,29 @@ ghost use Rattle.std.specs.Prelude.{◌≡◌, true, ◌≤◌, length, drop};
 ghost use Rattle.lines.specs.declared.Form.TheVariants.{Guide as a_guide};
 ghost use Rattle.lines.specs.Line.{line_of};
 ghost use Rattle.lines.specs.Clean.{is_clean, Clean};
-ghost use Rattle.guide.specs.Lines.{role_of, lines_at, pass, Reads, ReadsLine};
+ghost use Rattle.guide.specs.Lines.{role_of, lines_at, pass, Reads, LineAt};
 
 use crate::roles::{open_behind, role_of, role_of_kind, stops};
 use crate::{Here, LineRole, Role};
-use causes::Cause;
-use lines::{Form, Head};
+use lines::Form;
 
-// The line at the place a.
-pub fn line_at(guide: &[u8], a: usize) -> Here
+// The line at the place a, if there is one.
+pub fn line_at(guide: &[u8], a: usize) -> Option<Here>
     requires { (a ≤ length guide.now) × Clean a_guide (drop a guide.now) }
-    ensures { ReadsLine guide.now a result }
+    ensures { LineAt guide.now a result }
 {
     let end = text::find(guide, a, b'\n');
     if end == guide.len() {
-        return Here {
-            role: Role::Nothing,
-            head: Head::Faulty { cause: Cause::Byte },
-            start: end,
-            end,
-            next: end,
-        };
+        return None;
     }
     let head = accepted_lines::accepted_line(Form::Guide, &guide[a..end]);
-    Here {
+    Some(Here {
         role: role_of(head),
         head,
         start: a,
         end,
         next: end + 1,
-    }
+    })
 }
 
 // The role of a line that is no fault: its kind tells it.
@@ -48,7 +41,7 @@ pub fn role_at(guide: &[u8], a: usize) -> LineRole
     requires { (a ≤ length guide.now) × Clean a_guide (drop a guide.now) }
     ensures { Reads guide.now a result.role result.next }
 {
-    let end = text::find_within(guide, a, b'\n');
+    let end = text::find(guide, a, b'\n');
     if end == guide.len() {
         return LineRole {
             role: Role::Nothing,
@@ -71,11 +64,10 @@ pub fn pass_over(guide: &[u8], a: usize) -> usize
     let mut depth = 0;
     loop {
         let h = role_at(guide, at);
-        let role = h.role;
-        if stops(role, depth) {
+        if stops(h.role, depth) {
             return at;
         }
-        depth = open_behind(role, depth);
+        depth = open_behind(h.role, depth);
         at = h.next;
     }
 }

@@ -1,5 +1,5 @@
 // The role of a line in a block, and what it means to a walk.
-ghost use Rattle.std.specs.Prelude.{◌≡◌, ◌-◌, ◌<◌};
+ghost use Rattle.std.specs.Prelude.{◌≡◌, ◌<◌};
 ghost use Rattle.guide.specs.Lines.{role_by, role_by_kind, begins_by, else_by};
 ghost use Rattle.guide.specs.Lines as lines;
 
@@ -10,20 +10,11 @@ pub fn role_of(head: Head) -> Role
     ensures { result ≡ role_by head }
 {
     match head {
-        Head::Phrase => Role::Nothing,
-        Head::Input { register: _ } => Role::Statement,
-        Head::Inputs {
-            register: _,
-            options: _,
-        } => Role::Statement,
-        Head::Print => Role::Statement,
-        Head::Printex => Role::Statement,
-        Head::If { test: _ } => Role::If,
+        Head::Input { .. } | Head::Inputs { .. } | Head::Print | Head::Printex => Role::Statement,
+        Head::If { .. } => Role::If,
         Head::Else => Role::Else,
         Head::Fi => Role::Fi,
-        Head::Goto { skip: _ } => Role::Nothing,
-        Head::IfSkip { test: _, skip: _ } => Role::Nothing,
-        Head::Faulty { cause: _ } => Role::Nothing,
+        Head::Phrase | Head::Goto { .. } | Head::IfSkip { .. } => Role::Nothing,
     }
 }
 
@@ -31,16 +22,11 @@ pub fn role_of_kind(kind: Kind) -> Role
     ensures { result ≡ role_by_kind kind }
 {
     match kind {
-        Kind::Phrase => Role::Nothing,
-        Kind::Input => Role::Statement,
-        Kind::Inputs => Role::Statement,
-        Kind::Print => Role::Statement,
-        Kind::Printex => Role::Statement,
+        Kind::Input | Kind::Inputs | Kind::Print | Kind::Printex => Role::Statement,
         Kind::If => Role::If,
         Kind::Else => Role::Else,
         Kind::Fi => Role::Fi,
-        Kind::Goto => Role::Nothing,
-        Kind::Unknown => Role::Nothing,
+        Kind::Phrase | Kind::Goto => Role::Nothing,
     }
 }
 
@@ -48,25 +34,13 @@ pub fn role_of_kind(kind: Kind) -> Role
 pub fn begins(role: Role) -> bool
     ensures { result ≡ begins_by role }
 {
-    match role {
-        Role::Statement => true,
-        Role::If => true,
-        Role::Else => false,
-        Role::Fi => false,
-        Role::Nothing => false,
-    }
+    matches!(role, Role::Statement | Role::If)
 }
 
 pub fn is_else(role: Role) -> bool
     ensures { result ≡ else_by role }
 {
-    match role {
-        Role::Statement => false,
-        Role::If => false,
-        Role::Else => true,
-        Role::Fi => false,
-        Role::Nothing => false,
-    }
+    matches!(role, Role::Else)
 }
 
 // Whether a block ends at this line, where d inner ifs are open.
@@ -74,10 +48,8 @@ pub fn stops(role: Role, d: usize) -> bool
     ensures { result ≡ lines.stops role d }
 {
     match role {
-        Role::Statement => false,
-        Role::If => false,
-        Role::Else => d == 0,
-        Role::Fi => d == 0,
+        Role::Statement | Role::If => false,
+        Role::Else | Role::Fi => d == 0,
         Role::Nothing => true,
     }
 }
@@ -88,20 +60,8 @@ pub fn open_behind(role: Role, d: usize) -> usize
     ensures { result ≡ lines.open_behind role d }
 {
     match role {
-        Role::Statement => d,
         Role::If => d + 1,
-        Role::Else => d,
-        Role::Fi => less_one(d),
-        Role::Nothing => d,
+        Role::Fi => d.saturating_sub(1),
+        Role::Statement | Role::Else | Role::Nothing => d,
     }
-}
-
-// One less; 0 stays.
-fn less_one(d: usize) -> usize
-    ensures { result ≡ d - 1 }
-{
-    if d == 0 {
-        return 0;
-    }
-    d - 1
 }

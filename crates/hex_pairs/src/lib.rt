@@ -2,88 +2,65 @@
 // `read_pairs` takes any text and any buffer; its contract says the whole answer and the whole buffer.
 #![tactic(auto)]
 
-ghost use Rattle.std.specs.Prelude.{◌≡◌};
+ghost use Rattle.std.specs.Prelude.{◌≡◌, ◌<◌, List, ℕ, Bool, MatchOption};
 ghost use Rattle.output.specs.Pour.{poured};
-ghost use Rattle.hex_pairs.specs.Pairs.{digit_value, unlabelled, pairs_in, pairs_of};
-
-use printed::front;
+ghost use Rattle.hex_pairs.specs.Reading.{on_byte, LineRead};
+ghost use Rattle.hex_pairs.specs.Pairs.{digit_value, unlabelled, on_pair, pairs_of};
 
 // What reading pairs finds: how many bytes stand before the first fault, and the fault's line, 0 where there is none.
-#[derive(Clone, Copy)]
+#[derive(Clone, Copy, Debug, PartialEq, Eq)]
 pub struct PairsRead {
     pub count: usize,
     pub fault: usize,
 }
 
-// What reading a line finds: where the bytes of its pairs end, and whether the line holds nothing else.
-#[derive(Clone, Copy)]
-struct Line {
-    end: usize,
-    whole: bool,
+// The value of a digit; none for any other byte.
+fn value(b: u8) -> Option<u8>
+    ensures { MatchOption result (digit_value b ≡ 16) (λ v. (v ≡ digit_value b) × (v < 16)) }
+{
+    match b {
+        b'0'..=b'9' => Some(b - b'0'),
+        b'A'..=b'F' => Some(b - b'A' + 10),
+        b'a'..=b'f' => Some(b - b'a' + 10),
+        _ => None,
+    }
 }
 
-// The value of a digit, 16 for any other byte.
-fn value(b: u8) -> u8
-    ensures { result ≡ digit_value b }
+// The byte of two digits; none where one of them is none.
+fn byte_of(high: u8, low: u8) -> Option<u8>
+    ensures { (rest : List ℕ × Bool) → on_pair (digit_value high) (digit_value low) rest ≡ on_byte result rest }
 {
-    if b < b'0' {
-        return 16;
-    }
-    if b <= b'9' {
-        return b - b'0';
-    }
-    if b < b'A' {
-        return 16;
-    }
-    if b <= b'F' {
-        return b - 55;
-    }
-    if b < b'a' {
-        return 16;
-    }
-    if b <= b'f' {
-        return b - 87;
-    }
-    16
+    Some(value(high)? * 16 + value(low)?)
 }
 
 // A line without the label in front of it.
 fn unlabelled(line: &[u8]) -> &[u8]
     ensures { result.now ≡ unlabelled line.now }
 {
-    if text_parts::same(front(line, 6), b"plate,") {
-        return &line[6..];
-    }
-    line
+    line.strip_prefix(b"plate,").unwrap_or(line)
 }
 
-// The bytes of a line's pairs, up to the first fault.
-fn read_line(out: &mut [u8], at: usize, line: &[u8]) -> Line
-    ensures out_after { (result.end, out.new) ≡ poured at (pairs_in line.now).0 out.old }
-    ensures whole_value { result.whole ≡ (pairs_in line.now).1 }
+// The bytes of a line's pairs, up to the first fault: where they end, as an error where there is a fault.
+fn read_line(out: &mut [u8], at: usize, line: &[u8]) -> Result<usize, usize>
+    ensures { LineRead at line.now out.old result out.new }
 {
     let mut end = at;
-    let mut i = 0;
-    while i < line.len() {
-        if line[i] == b' ' {
-            i += 1;
-        } else {
-            if line.len() - i < 2 {
-                return Line { end, whole: false };
-            }
-            let high = value(line[i]);
-            let low = value(line[i + 1]);
-            if 15 < high {
-                return Line { end, whole: false };
-            }
-            if 15 < low {
-                return Line { end, whole: false };
-            }
-            end = text_out::put_byte(out, end, high * 16 + low);
-            i += 2;
+    let mut left = line;
+    while let [first, behind @ ..] = left {
+        if *first == b' ' {
+            left = behind;
+            continue;
         }
+        let [second, behind @ ..] = behind else {
+            return Err(end);
+        };
+        let Some(byte) = byte_of(*first, *second) else {
+            return Err(end);
+        };
+        end = text_out::put_byte(out, end, byte);
+        left = behind;
     }
-    Line { end, whole: true }
+    Ok(end)
 }
 
 // The bytes of a text's pairs, up to the first fault, at the front of the buffer as far as it goes.
@@ -92,20 +69,16 @@ pub fn read_pairs(text: &[u8], out: &mut [u8]) -> PairsRead
     ensures fault_value { result.fault ≡ (pairs_of text.now).1 }
 {
     let mut end = 0;
-    let mut line = 1;
-    let mut a = 0;
-    while a <= text.len() {
-        let e = text::find(text, a, b'\n');
-        let read = read_line(out, end, unlabelled(&text[a..e]));
-        end = read.end;
-        if !read.whole {
-            return PairsRead {
-                count: end,
-                fault: line,
-            };
+    for (i, line) in text.split(|&b| b == b'\n').enumerate() {
+        match read_line(out, end, unlabelled(line)) {
+            Ok(next) => end = next,
+            Err(count) => {
+                return PairsRead {
+                    count,
+                    fault: i + 1,
+                };
+            }
         }
-        a = e + 1;
-        line += 1;
     }
     PairsRead {
         count: end,

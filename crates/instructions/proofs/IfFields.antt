@@ -10,7 +10,7 @@ use lib.Dec.{ltb}
 use Rattle.bits.specs.Bits.{bytes_bits}
 use Rattle.bits.specs.Ahead.{ahead_in, part_ahead}
 use Rattle.bits.specs.Number.{number_in}
-use Rattle.bits.specs.declared.Number.TheVariants.{Is}
+use Rattle.std.specs.Prelude.{Some}
 use Rattle.bits.proofs.Bytes.{length-bytes_bits}
 use Rattle.bits.proofs.Reading.{number-in}
 use Rattle.bits_ahead.proofs.Ahead.{part-value}
@@ -33,12 +33,12 @@ use Rattle.fields.proofs.Ahead.{part-read}
 module _ (plate : List ℕ) (at : ℕ) {near far : ℕ} (e : near ≡ ahead_in plate at) (f : far ≡ ahead_in plate (at + 16)) where
   -- 16 bits that are there are a part of what is read ahead
   half : (bit : ℕ) {ahead : ℕ} → ahead ≡ ahead_in plate bit → 16 ≤ length plate * 8 - bit
-      → number_in 16 (drop bit (bytes_bits plate)) ≡ Is (part_ahead 0 16 ahead)
+      → number_in 16 (drop bit (bytes_bits plate)) ≡ Some (part_ahead 0 16 ahead)
   half bit {ahead} a room =
       let z : bit + 0 ≡ bit = omega arith in
       let enough : 16 ≤ length (drop bit (bytes_bits plate)) = omega (arith, length-drop bit (bytes_bits plate), length-bytes_bits plate) in
       let value = ap (part_ahead 0 16) a ∙ part-value plate bit 0 16 (omega arith) (omega arith) in
-      number-in 16 (drop bit (bytes_bits plate)) enough ∙ ap Is (sym (rw z at value))
+      number-in 16 (drop bit (bytes_bits plate)) enough ∙ ap Some (sym (rw z at value))
 
   halves-read : Known (number 32 (place_at plate at))
       → got (part_ahead 0 16 near * 65536 + part_ahead 0 16 far) (place_at plate (at + 32)) ≡ number 32 (place_at plate at)

@@ -3,15 +3,14 @@ ghost use Rattle.std.specs.Prelude.{◌≡◌, ℕ, ◌+◌, ◌*◌, ◌≤◌,
 ghost use Rattle.causes.specs.Limits.{most_plate_bits, most_plate_bytes, skips};
 ghost use Rattle.bits.specs.Ahead.{ahead_in, part_ahead};
 ghost use Rattle.phrases.specs.Phrases.{Phrases};
-ghost use Rattle.phrases.specs.Lookup.{phrases_in};
 ghost use Rattle.plate.specs.Program.{if_skip};
 ghost use Rattle.plate.specs.Reading.{got};
 ghost use Rattle.plate.specs.Plate.{signed, fields_by, instruction};
 ghost use Rattle.fields.specs.Places.{place_at, end_with, Known};
-ghost use Rattle.plate_texts.specs.TextsAt.{Lent};
 ghost use Rattle.instructions.specs.Heads.{headed, HeadFits};
 
 use crate::{Head, IfRead};
+use phrase_lookup::Lookup;
 use plate_constants::{long_constant, op_of, short_constant};
 use plate_texts::{copy_options, copy_text};
 use transcript::{Op, Test};
@@ -90,29 +89,19 @@ pub fn accepted_head(plate: &[u8], at: usize) -> Head
 }
 
 // The bit behind an instruction that was read before.
-pub fn accepted_end<'a>(
-    plate: &[u8],
-    at: usize,
-    behind: usize,
-    index: &'a [u32],
-    book: &'a [u8],
-    own: &'a [u8],
-    count: usize,
-) -> usize
-    requires { Lent plate.now index.now book.now own.now count × Known (instruction (phrases_in book.now own.now count) behind (place_at plate.now at)) }
-    ensures { got 0 (place_at plate.now result) ≡ end_with 0 (instruction (phrases_in book.now own.now count) behind (place_at plate.now at)) }
+pub fn accepted_end(plate: &[u8], at: usize, behind: usize, known: &Lookup) -> usize
+    requires { (length plate.now ≤ most_plate_bytes) × Known (instruction known.now behind (place_at plate.now at)) }
+    ensures { got 0 (place_at plate.now result) ≡ end_with 0 (instruction known.now behind (place_at plate.now at)) }
 {
     match accepted_head(plate, at) {
-        Head::Input { register: _, text } => {
-            copy_text(plate, text, index, book, own, count, &mut [], 0).next
+        Head::Input { text, .. } | Head::Print { text } | Head::Printex { text } => {
+            copy_text(plate, text, known, &mut [], 0).next
         }
-        Head::Inputs { register: _, text } => {
-            let options = copy_text(plate, text, index, book, own, count, &mut [], 0).next;
-            copy_options(plate, options, index, book, own, count, &mut [], 0).next
+        Head::Inputs { text, .. } => {
+            let options = copy_text(plate, text, known, &mut [], 0).next;
+            copy_options(plate, options, known, &mut [], 0).next
         }
-        Head::Print { text } => copy_text(plate, text, index, book, own, count, &mut [], 0).next,
-        Head::Printex { text } => copy_text(plate, text, index, book, own, count, &mut [], 0).next,
-        Head::Goto { skip: _, next } => next,
+        Head::Goto { next, .. } => next,
         Head::IfSkip { bit, ahead } => accepted_if(plate, bit, ahead).next,
     }
 }

@@ -3,7 +3,7 @@
 // read, which says where its texts begin (`accepted_head`), then the fields of an if (`accepted_if`), or the instruction's end
 // (`accepted_end`): nothing is judged again. The contracts say it by the readers of crate plate's specs/Plate.antt; specs/Heads.antt
 // says which instruction a head begins.
-// Asked of a caller (crate plate_texts' `Lent`): a plate of at most 2,953 bytes, the index of the book, and own phrases that are there.
+// Asked of a caller: a plate of at most 2,953 bytes, and a `Lookup` of the book's and the own phrases.
 #![tactic(auto)]
 
 mod heads;
@@ -15,7 +15,7 @@ use transcript::Test;
 
 // What stands in front of an instruction's texts. A text begins at its bit; the next is the bit behind a goto; an if is told by its bit and
 // the 25 bits that were read ahead there.
-#[derive(Clone, Copy)]
+#[derive(Clone, Copy, Debug, PartialEq, Eq)]
 pub enum Head {
     Input { register: usize, text: usize },
     Inputs { register: usize, text: usize },
@@ -26,7 +26,7 @@ pub enum Head {
 }
 
 // What an if says, and the bit behind it.
-#[derive(Clone, Copy)]
+#[derive(Clone, Copy, Debug, PartialEq, Eq)]
 pub struct IfRead {
     pub test: Test,
     pub skip: usize,

@@ -1,11 +1,12 @@
 -- Fields that make a line have allowed bytes alone, so that a line is what its fields make, but where they make none.
 use Prim.Native.Nat.{ℕ}
-use mathlib.Core.Path.{◌≡◌, refl, sym, ap, subst, ◌∙◌}
-use mathlib.Core.List.{List, [], ◌∷◌}
+use mathlib.Core.Path.{◌≡◌, refl, sym, ap, ◌∙◌}
+use mathlib.Core.List.{List}
 use mathlib.Core.Bool.{Bool, true, false, cond, ◌&&◌, false≢true}
 use native.Mathlib.Omega.{arith}
 use lib.IntN.{ℤ}
-use mathlib.Core.Option.{Option, none, some, none-ne-some}
+use Rattle.std.specs.Prelude.{Option, None, Some, Result, Ok, Err, MatchResult, IsErrAnd}
+use Rattle.std.proofs.lemmas.Option.{none-some}
 use Rattle.causes.specs.declared.Cause.{Cause}
 use Rattle.causes.specs.declared.Cause.TheVariants.{Byte}
 use Rattle.text.specs.Quoted.{bytes}
@@ -23,7 +24,6 @@ use Rattle.decimals.proofs.Constants.{constant-written}
 use Rattle.transcript.specs.declared.Op.{Op}
 use Rattle.lines.specs.declared.Form.{Form}
 use Rattle.lines.specs.declared.Head.{Head}
-use Rattle.lines.specs.declared.Head.TheVariants as head
 use Rattle.lines.specs.Line.{Line, phrase, says, if_line, else_line, fi_line, goto_line, if_skip_line, faulty, operator, fields_line, line_of}
 use Rattle.lines.specs.Answers.{head_of}
 use Rattle.lines.specs.Clean.{is_clean}
@@ -39,21 +39,21 @@ good f = all text_byte f && well_formed f
 text-good : (t : List ℕ) → is_text t ≡ true → good t ≡ true
 text-good t h = and_both (text-bytes t h) (text-letters t h)
 
-natural-good : (limit : ℕ) (s : List ℕ) (n : ℕ) → natural limit s ≡ some n → good s ≡ true
+natural-good : (limit : ℕ) (s : List ℕ) (n : ℕ) → natural limit s ≡ Some n → good s ≡ true
 natural-good limit s n h = ap good (sym (natural-written limit s n h).0) ∙ and_both (decimalℕ-bytes n) (decimalℕ-letters n)
 
-constant-good : (s : List ℕ) (z : ℤ) → constant s ≡ some z → good s ≡ true
+constant-good : (s : List ℕ) (z : ℤ) → constant s ≡ Some z → good s ≡ true
 constant-good s z h = ap good (sym (constant-written s z h).0) ∙ and_both (decimal-bytes z) (decimal-letters z)
 
-word_good : (w v : List ℕ) (x op : Op) (m : Option Op) → good v ≡ true → (m ≡ some op → good w ≡ true)
-    → cond (same w v) (some x) m ≡ some op → good w ≡ true
+word_good : (w v : List ℕ) (x op : Op) (m : Option Op) → good v ≡ true → (m ≡ Some op → good w ≡ true)
+    → cond (same w v) (Some x) m ≡ Some op → good w ≡ true
 word_good w v x op m g k = go (same w v) refl
   where
-    go : (b : Bool) → same w v ≡ b → cond b (some x) m ≡ some op → good w ≡ true
+    go : (b : Bool) → same w v ≡ b → cond b (Some x) m ≡ Some op → good w ≡ true
     go true e h = ap good (same-equal w v e) ∙ g
     go false e h = k h
 
-operator-good : (w : List ℕ) (op : Op) → operator w ≡ some op → good w ≡ true
+operator-good : (w : List ℕ) (op : Op) → operator w ≡ Some op → good w ≡ true
 unfolding operator all well_formed letters_behind begins
 operator-good w op =
     word_good w (bytes "eq") _ op _ refl
@@ -61,7 +61,7 @@ operator-good w op =
     (word_good w (bytes "lt") _ op _ refl
     (word_good w (bytes "le") _ op _ refl
     (word_good w (bytes "gt") _ op _ refl
-    (word_good w (bytes "ge") _ op none refl (λ h. absurd (none-ne-some op h)))))))
+    (word_good w (bytes "ge") _ op None refl (λ h. absurd (none-some op h)))))))
 
 read-good : {form : Form} {fs : List (List ℕ)} {l : Line} → ReadAs form fs l → is_clean l ≡ true → all good fs ≡ true
 unfolding all well_formed letters_behind begins
@@ -96,25 +96,36 @@ module _ (form : Form) (s : List ℕ) where
   line-by-fields h = rw (fields-allowed h)
 
   -- a byte that is not allowed comes before a fault of the fields
-  pub line-judged : head_of (line_of form s) ≡ cond (allowed_line s) (head_of (fields_line form (split comma s))) (head.Faulty Byte)
+  pub line-judged : head_of (line_of form s) ≡ cond (allowed_line s) (head_of (fields_line form (split comma s))) (Err Byte)
   unfolding line_of
   line-judged = go (allowed_line s)
     where
       go : (b : Bool) → head_of (cond b (fields_line form (split comma s)) (faulty Byte))
-          ≡ cond b (head_of (fields_line form (split comma s))) (head.Faulty Byte)
+          ≡ cond b (head_of (fields_line form (split comma s))) (Err Byte)
       go true = refl
       go false = refl
 
--- a head that is no fault is that of a line that is none
-pub head-clean : (l : Line) {h : Head} → h ≡ head_of l → ((c : Cause) → h ≡ head.Faulty c → ⊥) → is_clean l ≡ true
-head-clean l e k = go l (subst (λ h. (c : Cause) → h ≡ head.Faulty c → ⊥) e k)
-  where
-    go : (l : Line) → ((c : Cause) → head_of l ≡ head.Faulty c → ⊥) → is_clean l ≡ true
-    go (phrase t) k = refl
-    go (says x) k = refl
-    go (if_line t) k = refl
-    go else_line k = refl
-    go fi_line k = refl
-    go (goto_line j) k = refl
-    go (if_skip_line t j) k = refl
-    go (faulty c) k = absurd (k c refl)
+-- a line that has a head is no fault
+pub head-clean : (l : Line) {h : Head} → Ok h ≡ head_of l → is_clean l ≡ true
+head-clean (phrase t) e = refl
+head-clean (says x) e = refl
+head-clean (if_line t) e = refl
+head-clean else_line e = refl
+head-clean fi_line e = refl
+head-clean (goto_line j) e = refl
+head-clean (if_skip_line t j) e = refl
+head-clean (faulty c) e = cc
+
+-- what its fields make, with the cause that comes first
+module _ (form : Form) (s : List ℕ) where
+  pub by-fields : {q r : Result Head Cause} (P : Cause → Cause → Type 0) → q ≡ head_of (fields_line form (split comma s))
+      → MatchResult q (λ h. r ≡ Ok h) (λ c. IsErrAnd r (P c)) → ((c d : Cause) → P c d → d ≡ cond (allowed_line s) c Byte)
+      → r ≡ head_of (line_of form s)
+  by-fields {q = Ok h} {r = r} P e k f = k ∙ e ∙ ap head_of (sym (line-by-fields form s (head-clean (fields_line form (split comma s)) e)))
+  by-fields {q = Err c} {r = Ok h} P e k f = absurd k
+  by-fields {q = Err c} {r = Err d} P e k f =
+      ap Err (f c d k) ∙ go (allowed_line s) ∙ ap (λ h. cond (allowed_line s) h (Err Byte)) e ∙ sym (line-judged form s)
+    where
+      go : (b : Bool) → ◌≡◌ {A = Result Head Cause} (Err (cond b c Byte)) (cond b (Err c) (Err Byte))
+      go true = refl
+      go false = refl

@@ -1,3 +1,4 @@
 pub mod FieldBytes
-pub mod FieldValues
 pub mod TestFields
+pub mod OneText
+pub mod Missing

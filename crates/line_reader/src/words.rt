@@ -1,121 +1,58 @@
 // The words of a line: its kind, and the operator of an if.
-ghost use Rattle.std.specs.Prelude.{◌≡◌, length};
+ghost use Rattle.std.specs.Prelude.{◌≡◌};
 ghost use Rattle.lines.specs.Line.{operator};
 ghost use Rattle.lines.specs.Words.{kind_of};
-ghost use Rattle.line_reader.specs.Answers.{operator_answer};
 
 use lines::Kind;
+use text_parts::same;
 use transcript::Op;
 
-// What reading an operator finds.
-#[derive(Clone, Copy)]
-pub enum Operator {
-    Is(Op),
-    Wrong,
-}
-
-// The kind of a word. Its length leaves two words at most to compare it with.
-pub fn kind_of(word: &[u8]) -> Kind
+// The kind that a word names.
+#[tactic(auto, unfolding(lines::specs::Words::kind_of))]
+pub fn kind_of(word: &[u8]) -> Option<Kind>
     ensures { result ≡ kind_of word.now }
 {
-    match word.len() {
-        2 => kind_of_two(word),
-        4 => kind_of_four(word),
-        5 => kind_of_five(word),
-        6 => kind_of_six(word),
-        7 => kind_of_seven(word),
-        _ => Kind::Unknown,
+    if same(word, b"phrase") {
+        Some(Kind::Phrase)
+    } else if same(word, b"input") {
+        Some(Kind::Input)
+    } else if same(word, b"inputs") {
+        Some(Kind::Inputs)
+    } else if same(word, b"print") {
+        Some(Kind::Print)
+    } else if same(word, b"printex") {
+        Some(Kind::Printex)
+    } else if same(word, b"if") {
+        Some(Kind::If)
+    } else if same(word, b"else") {
+        Some(Kind::Else)
+    } else if same(word, b"fi") {
+        Some(Kind::Fi)
+    } else if same(word, b"goto") {
+        Some(Kind::Goto)
+    } else {
+        None
     }
 }
 
-// The kind of a word of two bytes.
-fn kind_of_two(word: &[u8]) -> Kind
-    requires { length word.now ≡ 2 }
-    ensures { result ≡ kind_of word.now }
+// The operator that a word names.
+#[tactic(auto, unfolding(lines::specs::Line::operator))]
+pub fn read_operator(word: &[u8]) -> Option<Op>
+    ensures { result ≡ operator word.now }
 {
-    if text_parts::same(word, b"if") {
-        return Kind::If;
+    if same(word, b"eq") {
+        Some(Op::Eq)
+    } else if same(word, b"ne") {
+        Some(Op::Ne)
+    } else if same(word, b"lt") {
+        Some(Op::Lt)
+    } else if same(word, b"le") {
+        Some(Op::Le)
+    } else if same(word, b"gt") {
+        Some(Op::Gt)
+    } else if same(word, b"ge") {
+        Some(Op::Ge)
+    } else {
+        None
     }
-    if text_parts::same(word, b"fi") {
-        return Kind::Fi;
-    }
-    Kind::Unknown
-}
-
-// Of four bytes.
-fn kind_of_four(word: &[u8]) -> Kind
-    requires { length word.now ≡ 4 }
-    ensures { result ≡ kind_of word.now }
-{
-    if text_parts::same(word, b"else") {
-        return Kind::Else;
-    }
-    if text_parts::same(word, b"goto") {
-        return Kind::Goto;
-    }
-    Kind::Unknown
-}
-
-// Of five bytes.
-fn kind_of_five(word: &[u8]) -> Kind
-    requires { length word.now ≡ 5 }
-    ensures { result ≡ kind_of word.now }
-{
-    if text_parts::same(word, b"input") {
-        return Kind::Input;
-    }
-    if text_parts::same(word, b"print") {
-        return Kind::Print;
-    }
-    Kind::Unknown
-}
-
-// Of six bytes.
-fn kind_of_six(word: &[u8]) -> Kind
-    requires { length word.now ≡ 6 }
-    ensures { result ≡ kind_of word.now }
-{
-    if text_parts::same(word, b"phrase") {
-        return Kind::Phrase;
-    }
-    if text_parts::same(word, b"inputs") {
-        return Kind::Inputs;
-    }
-    Kind::Unknown
-}
-
-// Of seven bytes.
-fn kind_of_seven(word: &[u8]) -> Kind
-    requires { length word.now ≡ 7 }
-    ensures { result ≡ kind_of word.now }
-{
-    if text_parts::same(word, b"printex") {
-        return Kind::Printex;
-    }
-    Kind::Unknown
-}
-
-// The operator of a word.
-pub fn read_operator(word: &[u8]) -> Operator
-    ensures { result ≡ operator_answer (operator word.now) }
-{
-    if text_parts::same(word, b"eq") {
-        return Operator::Is(Op::Eq);
-    }
-    if text_parts::same(word, b"ne") {
-        return Operator::Is(Op::Ne);
-    }
-    if text_parts::same(word, b"lt") {
-        return Operator::Is(Op::Lt);
-    }
-    if text_parts::same(word, b"le") {
-        return Operator::Is(Op::Le);
-    }
-    if text_parts::same(word, b"gt") {
-        return Operator::Is(Op::Gt);
-    }
-    if text_parts::same(word, b"ge") {
-        return Operator::Is(Op::Ge);
-    }
-    Operator::Wrong
 }

@@ -3,7 +3,8 @@ use Prim.Native.Nat.{ℕ, suc, ◌+◌, ◌-◌, ◌<◌}
 use mathlib.Core.Path.{◌≡◌, refl, sym, ap, ◌∙◌}
 use mathlib.Core.List.{List, [], ◌∷◌}
 use mathlib.Core.Bool.{Bool, true, false, cond}
-use mathlib.Core.Option.{none, some-ne-none}
+use Rattle.std.specs.Prelude.{None}
+use Rattle.std.proofs.lemmas.Option.{none-some}
 use lib.ListN.{length, take, drop}
 use lib.Dec.{leb}
 use Rattle.causes.specs.Answers.{made, refused}
@@ -13,7 +14,7 @@ use Rattle.text.specs.Parts.{split, until_byte, all, LF}
 use Rattle.text.specs.Text.{Text}
 use Rattle.text.proofs.Tests.{all_first, all_rest, all_cons}
 use Rattle.text.proofs.Places.{part-first}
-use Rattle.text.proofs.Splits.{Some, split-some}
+use Rattle.text.proofs.Splits.{Some as Parted, split-some}
 use Rattle.lines.specs.declared.Form.{Form}
 use Rattle.lines.specs.Line.{Line, phrase, says, if_line, else_line, fi_line, goto_line, if_skip_line, faulty, line_of, lines_in}
 use Rattle.lines.specs.Check.{Seen, nothing_seen, cause_of, next, check_from, most_bytes, lines_of}
@@ -22,7 +23,7 @@ use Rattle.lines.specs.Clean.{is_clean, Clean}
 use Rattle.lines.proofs.Passes.{Passes, check-passes}
 
 -- a line with no cause has none by itself
-pub line_clean : (book : List Text) (s : Seen) (l : Line) → cause_of book s l ≡ none → is_clean l ≡ true
+pub line_clean : (book : List Text) (s : Seen) (l : Line) → cause_of book s l ≡ None → is_clean l ≡ true
 line_clean book s (phrase t) h = refl
 line_clean book s (says x) h = refl
 line_clean book s (if_line t) h = refl
@@ -30,7 +31,7 @@ line_clean book s else_line h = refl
 line_clean book s fi_line h = refl
 line_clean book s (goto_line k) h = refl
 line_clean book s (if_skip_line t k) h = refl
-line_clean book s (faulty c) h = absurd (some-ne-none c h)
+line_clean book s (faulty c) h = absurd (none-some c (sym h))
 
 pub passes-clean : (book : List Text) (n : ℕ) (s last : Seen) (ls : List Line) → Passes book n s last ls → all is_clean ls ≡ true
 unfolding all
@@ -56,7 +57,7 @@ module _ (form : Form) (text : List ℕ) (a e : ℕ) (k : e ≡ a + until_byte L
   unfolding lines_in
   lines_next = ap (lines_in form) (part-first LF text a e k l) ∙ go (split LF (drop (e + 1) text)) (split-some LF (drop (e + 1) text))
     where
-      go : (ps : List (List ℕ)) → Some ps
+      go : (ps : List (List ℕ)) → Parted ps
           → lines_in form (take (e - a) (drop a text) ∷ ps) ≡ line_of form (take (e - a) (drop a text)) ∷ lines_in form ps
       go ps (q, qs, e) = rw e
 

@@ -3,23 +3,23 @@ use Prim.Native.Nat.{ℕ, ◌<◌}
 use native.Mathlib.Omega.{arith}
 use mathlib.Core.Path.{◌≡◌, refl}
 use mathlib.Core.List.{List, [], ◌∷◌}
-use mathlib.Core.Bool.{Bool, true, false, cond, ◌&&◌}
-use mathlib.Core.Option.{Option, none, some, bind}
+use mathlib.Core.Bool.{false, cond, ◌&&◌}
+use Rattle.std.specs.Prelude.{Option, None, Some, option_and_then, option_map}
 use lib.ListN.{length, drop, get_or}
 use lib.IntN.{ℤ}
 use lib.Dec.{eqb, leb, leb-suc-suc}
 use borrow.Author.Tests.{ne_eqb}
-use Rattle.causes.specs.declared.Cause.TheVariants.{Kind, Value}
+use Rattle.causes.specs.declared.Cause.TheVariants.{Kind}
 use Rattle.text.specs.Parts.{all}
 use Rattle.text.specs.Text.{is_text}
 use Rattle.decimals.specs.Number.{register, constant, skip}
-use Rattle.transcript.specs.Statement.{input, inputs}
+use Rattle.transcript.specs.Statement.{inputs}
 use Rattle.transcript.specs.declared.Op.{Op}
 use Rattle.transcript.specs.declared.Test.{Test}
 use Rattle.lines.specs.declared.Form.{Form}
 use Rattle.lines.specs.declared.Form.TheVariants.{Guide, Listing}
 use Rattle.lines.specs.Line.{Line, says, if_line, if_skip_line, faulty}
-use Rattle.lines.specs.Line.{valued, given, operator, text_line, input_line, inputs_line, test_line, if_fields}
+use Rattle.lines.specs.Line.{valued, given, operator, inputs_line, test_line, if_fields}
 use Rattle.lines.specs.Fields.{test_of}
 
 past : (n k : ℕ) → k < n → eqb n k ≡ false
@@ -27,16 +27,16 @@ past n k h = ne_eqb n k (λ e. omega arith)
 
 -- three fields make a test, then a line
 pub test-given : (r o c : List ℕ) (line : Test → Line) → test_line r o c line ≡ given (test_of r o c) line
-unfolding test_of bind
+unfolding test_of
 test-given r o c line = go (register r) (operator o) (constant c)
   where
     go : (r : Option ℕ) (o : Option Op) (c : Option ℤ)
         → given r (λ r. given o (λ o. given c (λ c. line (record { register = r; op = o; constant = c }))))
-        ≡ given (bind r (λ r. bind o (λ o. bind c (λ c. some (record { register = r; op = o; constant = c }))))) line
-    go none o c = refl
-    go (some r) none c = refl
-    go (some r) (some o) none = refl
-    go (some r) (some o) (some c) = refl
+        ≡ given (option_and_then (λ r. option_and_then (λ o. option_map (λ c. record { register = r; op = o; constant = c }) c) o) r) line
+    go None o c = refl
+    go (Some r) None c = refl
+    go (Some r) (Some o) None = refl
+    go (Some r) (Some o) (Some c) = refl
 
 pub inputs-counted : (fs : List (List ℕ))
     → inputs_line fs
@@ -72,20 +72,3 @@ listing-if-counted (r ∷ o ∷ []) = refl
 listing-if-counted (r ∷ o ∷ c ∷ []) = refl
 listing-if-counted (r ∷ o ∷ c ∷ k ∷ []) = test-given r o c (λ t. given (skip k) (λ k. if_skip_line t k))
 listing-if-counted (r ∷ o ∷ c ∷ k ∷ u ∷ fs) = rw (past (length (r ∷ o ∷ c ∷ k ∷ u ∷ fs)) 4 (omega arith))
-
--- a question's line is that of its text, once its register is known
-pub input-register : (r : List ℕ) (n : ℕ) (fs : List (List ℕ)) → register r ≡ some n
-    → input_line (r ∷ fs) ≡ text_line is_text (λ t. says (input n t)) fs
-input-register r n [] h = refl
-input-register r n (t ∷ []) h = rw h
-input-register r n (t ∷ u ∷ fs) h = refl
-
--- with a wrong register the count of fields is still judged first
-pub input-wrong : (r : List ℕ) (fs : List (List ℕ)) → register r ≡ none → input_line (r ∷ fs) ≡ text_line is_text (λ t. faulty Value) fs
-input-wrong r [] h = refl
-input-wrong r (t ∷ []) h = rw h (go (is_text t))
-  where
-    go : (b : Bool) → faulty Value ≡ valued b (faulty Value)
-    go true = refl
-    go false = refl
-input-wrong r (t ∷ u ∷ fs) h = refl

@@ -2,11 +2,11 @@
 use Prim.Native.Nat.{ℕ, ◌+◌, ◌-◌, ◌≤◌, ◌<◌}
 use mathlib.Core.Path.{◌≡◌, sym, ap, ◌∙◌}
 use mathlib.Core.List.{List, [], ◌∷◌}
-use mathlib.Core.Bool.{Bool, true, false}
+use mathlib.Core.Bool.{true}
 use native.Mathlib.Omega.{arith}
 use lib.ListN.{length, take, drop, get_or, length-drop}
 use lib.Seq.{take_all}
-use Rattle.causes.specs.declared.Cause.TheVariants.{Kind, Value}
+use Rattle.causes.specs.declared.Cause.TheVariants.{Kind}
 use Rattle.text.specs.Parts.{comma, parts_from, split, until_byte}
 use Rattle.text.specs.Text.{Text, text_byte, is_text}
 use Rattle.decimals.specs.Number.{skip}
@@ -15,7 +15,7 @@ use Rattle.text.proofs.Splits.{other, Some, split-some, split-last}
 use Rattle.text.proofs.Bytes.{text-bytes, text-no-comma}
 use Rattle.text.proofs.Places.{parts-some, parts_none, parts_next}
 use Rattle.lines.specs.declared.Form.TheVariants.{Guide, Listing}
-use Rattle.lines.specs.Line.{Line, goto_line, faulty, given, text_line, bare_line, goto_fields}
+use Rattle.lines.specs.Line.{Line, goto_line, faulty, given, bare_line, goto_fields}
 
 module _ (s : List ℕ) (a : ℕ) where
   -- ---- past the end
@@ -41,15 +41,6 @@ module _ (s : List ℕ) (a : ℕ) where
       let plain = all_so text_byte (other comma) text-no-comma t (text-bytes t k) in
       parts-some comma s a h ∙ ap (split comma) (sym e) ∙ split-last comma t plain
 
-  pub text-good : (rule : Text → Bool) (line : Text → Line) (t : Text) → t ≡ drop a s → a ≤ length s → is_text t ≡ true → rule t ≡ true
-      → text_line rule line (parts_from comma a s) ≡ line t
-  text-good rule line t e h k r = rw (one-text t e h k, r)
-
-  -- a text that another rule refuses
-  pub text-unfit : (rule : Text → Bool) (line : Text → Line) (t : Text) → t ≡ drop a s → a ≤ length s → is_text t ≡ true → rule t ≡ false
-      → text_line rule line (parts_from comma a s) ≡ faulty Value
-  text-unfit rule line t e h k r = rw (one-text t e h k, r)
-
   -- all fields, in the part from the place on
   pub rest-parts : a ≤ length s → split comma (take (length s - a) (drop a s)) ≡ parts_from comma a s
   rest-parts h = ap (split comma) whole-rest ∙ sym (parts-some comma s a h)
@@ -70,19 +61,6 @@ module _ (s : List ℕ) (a : ℕ) where
       where
         go : Some (split comma (drop (e + 1) s)) → Some (parts_from comma (e + 1) s)
         go (q, qs, f) = (q, qs, parts-some comma s (e + 1) (omega arith) ∙ f)
-
-    pub text-more : (rule : Text → Bool) (line : Text → Line) → e < length s → text_line rule line (parts_from comma a s) ≡ faulty Kind
-    text-more rule line l = go (one_more l)
-      where
-        go : Some (parts_from comma (e + 1) s) → text_line rule line (parts_from comma a s) ≡ faulty Kind
-        go (q, qs, f) = rw (parts_next comma s a e h k, f)
-
-    pub text-bad : (rule : Text → Bool) (line : Text → Line) (t : Text) → t ≡ drop a s → e ≤ length s → length s ≤ e → rule t ≡ false
-        → text_line rule line (parts_from comma a s) ≡ faulty Value
-    text-bad rule line t f m l n =
-        let end : e ≡ length s = omega arith in
-        let field : take (e - a) (drop a s) ≡ t = rw end whole-rest ∙ sym f in
-        rw (only-field l, field, n)
 
     pub goto-more : e < length s → goto_fields Listing (parts_from comma a s) ≡ faulty Kind
     goto-more l = go (one_more l)

@@ -4,7 +4,7 @@ use native.Mathlib.Omega.{arith}
 use mathlib.Core.Path.{◌≡◌, refl}
 use mathlib.Core.List.{List, [], ◌∷◌}
 use mathlib.Core.Bool.{Bool, true, false, cond, ◌&&◌}
-use mathlib.Core.Option.{Option, none, some}
+use Rattle.std.specs.Prelude.{Option, None, Some}
 use lib.IntN.{ℤ}
 use Rattle.causes.specs.declared.Cause.{Cause}
 use Rattle.causes.specs.declared.Cause.TheVariants.{Byte, Kind, Value, Phrase}
@@ -15,7 +15,7 @@ use Rattle.text.specs.Utf8.{letters_behind, well_formed}
 use Rattle.text.proofs.Fields.{well-join}
 use Rattle.decimals.specs.Number.{register, constant, skip}
 use Rattle.text.proofs.Tests.{each-so, same-equal}
-use Rattle.text.proofs.Splits.{other, Some, split-some, split-join, join-all}
+use Rattle.text.proofs.Splits.{other, Some as Parted, split-some, split-join, join-all}
 use Rattle.text.proofs.Bytes.{text-allowed, text-no-comma}
 use Rattle.text.proofs.Valid.{TextOk}
 use Rattle.transcript.specs.Statement.{input, inputs, print, printex}
@@ -43,19 +43,19 @@ fields_read form (w ∷ fs) h k =
 pub data ReadAs : Form → List (List ℕ) → Line → Type 0 where
   as-fault : {form : Form} {fs : List (List ℕ)} (c : Cause) → ReadAs form fs (faulty c)
   as-phrase : {t : Text} → is_own_text t ≡ true → ReadAs Listing (bytes "phrase" ∷ t ∷ []) (phrase t)
-  as-input : {form : Form} {r : List ℕ} {t : Text} {n : ℕ} → register r ≡ some n → TextOk t
+  as-input : {form : Form} {r : List ℕ} {t : Text} {n : ℕ} → register r ≡ Some n → TextOk t
       → ReadAs form (bytes "input" ∷ r ∷ t ∷ []) (says (input n t))
-  as-inputs : {form : Form} {r : List ℕ} {t : Text} {os : List Text} {n : ℕ} → option_count os ≡ true → register r ≡ some n
+  as-inputs : {form : Form} {r : List ℕ} {t : Text} {os : List Text} {n : ℕ} → option_count os ≡ true → register r ≡ Some n
       → (is_text t && all is_text os) ≡ true → ReadAs form (bytes "inputs" ∷ r ∷ t ∷ os) (says (inputs n t os))
   as-print : {form : Form} {t : Text} → TextOk t → ReadAs form (bytes "print" ∷ t ∷ []) (says (print t))
   as-printex : {form : Form} {t : Text} → TextOk t → ReadAs form (bytes "printex" ∷ t ∷ []) (says (printex t))
-  as-if : {r o c : List ℕ} {n : ℕ} {op : Op} {z : ℤ} → register r ≡ some n → operator o ≡ some op → constant c ≡ some z
+  as-if : {r o c : List ℕ} {n : ℕ} {op : Op} {z : ℤ} → register r ≡ Some n → operator o ≡ Some op → constant c ≡ Some z
       → ReadAs Guide (bytes "if" ∷ r ∷ o ∷ c ∷ []) (if_line (record { register = n; op = op; constant = z }))
   as-else : ReadAs Guide (bytes "else" ∷ []) else_line
   as-fi : ReadAs Guide (bytes "fi" ∷ []) fi_line
-  as-goto : {k : List ℕ} {j : ℕ} → skip k ≡ some j → ReadAs Listing (bytes "goto" ∷ k ∷ []) (goto_line j)
-  as-if-skip : {r o c k : List ℕ} {n : ℕ} {op : Op} {z : ℤ} {j : ℕ} → register r ≡ some n → operator o ≡ some op
-      → constant c ≡ some z → skip k ≡ some j
+  as-goto : {k : List ℕ} {j : ℕ} → skip k ≡ Some j → ReadAs Listing (bytes "goto" ∷ k ∷ []) (goto_line j)
+  as-if-skip : {r o c k : List ℕ} {n : ℕ} {op : Op} {z : ℤ} {j : ℕ} → register r ≡ Some n → operator o ≡ Some op
+      → constant c ≡ Some z → skip k ≡ Some j
       → ReadAs Listing (bytes "if" ∷ r ∷ o ∷ c ∷ k ∷ []) (if_skip_line (record { register = n; op = op; constant = z }) j)
 
 module _ {form : Form} {fs : List (List ℕ)} where
@@ -63,9 +63,9 @@ module _ {form : Form} {fs : List (List ℕ)} where
   valued_as true h = h refl
   valued_as false h = as-fault Value
 
-  given-as : {A : Type 0} (o : Option A) (f : A → Line) → ((a : A) → o ≡ some a → ReadAs form fs (f a)) → ReadAs form fs (given o f)
-  given-as none f h = as-fault Value
-  given-as (some a) f h = h a refl
+  given-as : {A : Type 0} (o : Option A) (f : A → Line) → ((a : A) → o ≡ Some a → ReadAs form fs (f a)) → ReadAs form fs (given o f)
+  given-as None f h = as-fault Value
+  given-as (Some a) f h = h a refl
 
   test-as : (b : Bool) {l m : Line} → (b ≡ true → ReadAs form fs l) → ReadAs form fs m → ReadAs form fs (cond b l m)
   test-as true h k = h refl
@@ -141,7 +141,7 @@ kind-as form w fs =
 pub fields-read-as : (form : Form) (s : List ℕ) → ReadAs form (split comma s) (fields_line form (split comma s))
 fields-read-as form s = go (split-some comma s)
   where
-    go : Some (split comma s) → ReadAs form (split comma s) (fields_line form (split comma s))
+    go : Parted (split comma s) → ReadAs form (split comma s) (fields_line form (split comma s))
     go (w, fs, e) = rw e (kind-as form w fs)
 
 pub line-read-as : (form : Form) (s : List ℕ) → ReadAs form (split comma s) (line_of form s)

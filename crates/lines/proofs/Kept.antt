@@ -4,7 +4,8 @@ use native.Mathlib.Omega.{arith}
 use mathlib.Core.Path.{◌≡◌, refl, sym, ap, subst, ◌∙◌}
 use mathlib.Core.List.{List, [], ◌∷◌}
 use mathlib.Core.Bool.{Bool, true, false, cond, ◌&&◌}
-use mathlib.Core.Option.{Option, none, some, some-ne-none}
+use Rattle.std.specs.Prelude.{Option, None, Some}
+use Rattle.std.proofs.lemmas.Option.{none-some}
 use lib.ListN.{length, length-append}
 use lib.Dec.{ltb, eqb}
 use borrow.Author.Tests.{ltb-true, eqb-true}
@@ -25,15 +26,15 @@ use Rattle.lines.proofs.Passes.{Passes}
 
 -- ---- what no cause says
 
-pub test-passed : (b : Bool) (o : Option Cause) (c : Cause) → cond b o (some c) ≡ none → (b ≡ true) × (o ≡ none)
+pub test-passed : (b : Bool) (o : Option Cause) (c : Cause) → cond b o (Some c) ≡ None → (b ≡ true) × (o ≡ None)
 test-passed true o c e = (refl, e)
-test-passed false o c e = absurd (some-ne-none c e)
+test-passed false o c e = absurd (none-some c (sym e))
 
-pub room-left : (s : Seen) → room_cause s ≡ none → s.instructions < 512
+pub room-left : (s : Seen) → room_cause s ≡ None → s.instructions < 512
 room-left s e = ltb-true s.instructions 512 (test-passed _ _ _ e).0
 
 -- a phrase that has no cause stands before the instructions, is at most the 32nd, and is new
-pub phrase-allowed : (book : List Text) (s : Seen) (t : Text) → phrase_cause book s t ≡ none
+pub phrase-allowed : (book : List Text) (s : Seen) (t : Text) → phrase_cause book s t ≡ None
     → (s.instructions ≡ 0) × (length s.own < 32) × (is_new book s.own t ≡ true)
 phrase-allowed book s t e =
     let a = and_parts (eqb s.instructions 0 && ltb (length s.own) 32) (is_new book s.own t) (test-passed _ _ _ e).0 in
@@ -41,16 +42,16 @@ phrase-allowed book s t e =
     (eqb-true _ _ b.0, ltb-true _ _ b.1, a.1)
 
 -- the innermost if has had no `else`
-pub else-allowed : (o : Open) (os : List Open) (room : Option Cause) → else_cause (o ∷ os) room ≡ none
-    → (o.turned ≡ false) × (room ≡ none)
+pub else-allowed : (o : Open) (os : List Open) (room : Option Cause) → else_cause (o ∷ os) room ≡ None
+    → (o.turned ≡ false) × (room ≡ None)
 else-allowed o os room = go o.turned
   where
-    go : (v : Bool) → cond v (some Nesting) room ≡ none → (v ≡ false) × (room ≡ none)
-    go true e = absurd (some-ne-none _ e)
+    go : (v : Bool) → cond v (Some Nesting) room ≡ None → (v ≡ false) × (room ≡ None)
+    go true e = absurd (none-some _ (sym e))
     go false e = (refl, e)
 
-pub else-room : (ifs : List Open) (room : Option Cause) → else_cause ifs room ≡ none → room ≡ none
-else-room [] room e = absurd (some-ne-none _ e)
+pub else-room : (ifs : List Open) (room : Option Cause) → else_cause ifs room ≡ None → room ≡ None
+else-room [] room e = absurd (none-some _ (sym e))
 else-room (o ∷ os) room e = (else-allowed o os room e).1
 
 -- ---- what is seen meets the rules, line by line
@@ -63,10 +64,10 @@ pub record Kept (book : List Text) (s : Seen) : Type 0 where
 
 module _ (form : Form) (book : List Text) where
   -- no more phrases, and one instruction more
-  one_more : (s : Seen) (ifs : List Open) → room_cause s ≡ none → Kept book s → Kept book (one_more_instruction ifs s)
+  one_more : (s : Seen) (ifs : List Open) → room_cause s ≡ None → Kept book s → Kept book (one_more_instruction ifs s)
   one_more s ifs e h = record { phrases = h.phrases; plain = h.plain; few = h.few; room = room-left s e }
 
-  line_kept : (n : ℕ) (l : Line) (s : Seen) → ValidLine form l → cause_of book s l ≡ none → Kept book s → Kept book (next n l s)
+  line_kept : (n : ℕ) (l : Line) (s : Seen) → ValidLine form l → cause_of book s l ≡ None → Kept book s → Kept book (next n l s)
   unfolding all
   line_kept n (phrase t) s v e h =
       let a = phrase-allowed book s t e in

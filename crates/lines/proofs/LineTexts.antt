@@ -1,9 +1,11 @@
 -- What the head of a line tells of its texts: where the text of a print or a verdict begins, and how many options there are.
 use Prim.Native.Nat.{ℕ, ◌+◌, ◌-◌, ◌≤◌}
 use native.Mathlib.Omega.{arith}
-use mathlib.Core.Path.{◌≡◌, refl, sym, ap, ◌∙◌}
+use mathlib.Core.Path.{◌≡◌, refl, sym, ap, subst, ◌∙◌}
 use mathlib.Core.List.{List, [], ◌∷◌}
 use lib.ListN.{length, take, drop, get_or}
+use Rattle.std.specs.Prelude.{Result, Ok, Err}
+use Rattle.causes.specs.declared.Cause.{Cause}
 use lib.Seq.{drop-drop}
 use Rattle.text.specs.Parts.{split, join, comma, parts_from, until_byte}
 use Rattle.decimals.specs.Number.{register}
@@ -57,9 +59,13 @@ Texts head.Else fs s = Unit
 Texts head.Fi fs s = Unit
 Texts (head.Goto k) fs s = Unit
 Texts (head.IfSkip t k) fs s = Unit
-Texts (head.Faulty c) fs s = Unit
 
-read-texts : {form : Form} {fs : List (List ℕ)} {l : Line} → ReadAs form fs l → Texts (head_of l) fs (join comma fs)
+-- where it has a head
+abbrev TextsOf : Result Head Cause → List (List ℕ) → List ℕ → Type 0
+TextsOf (Ok h) fs s = Texts h fs s
+TextsOf (Err c) fs s = Unit
+
+read-texts : {form : Form} {fs : List (List ℕ)} {l : Line} → ReadAs form fs l → TextsOf (head_of l) fs (join comma fs)
 unfolding join until_byte
 read-texts (as-fault c) = tt
 read-texts (as-phrase h) = tt
@@ -75,7 +81,9 @@ read-texts (as-if-skip r o c k) = tt
 
 -- a line's head h is known to be k
 pub texts : (h k : Head) (s : List ℕ) → Heads h s → h ≡ k → Texts k (split comma s) s
-texts h k s (form, e) f = rw (← f, e) (rw (join-split comma s) at (read-texts (line-read-as form s)))
+texts h k s (form, e) f =
+    let t = rw (join-split comma s) at (read-texts (line-read-as form s)) in
+    rw (← f) (subst (λ (r : Result Head Cause). TextsOf r (split comma s) s) (sym e) t)
 
 -- the register, read from the place a on
 register-at : {a : ℕ} {s : List ℕ} → RegisterIn a (split comma s) s → HasValue register (parts_from comma a s) × (2 ≤ length (parts_from comma a s))

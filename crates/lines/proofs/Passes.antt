@@ -2,7 +2,8 @@
 use Prim.Native.Nat.{ℕ, suc}
 use mathlib.Core.Path.{◌≡◌, refl, sym, ap, ◌∙◌}
 use mathlib.Core.List.{List, [], ◌∷◌}
-use mathlib.Core.Option.{Option, none, some, some-ne-none}
+use Rattle.std.specs.Prelude.{Option, None, Some}
+use Rattle.std.proofs.lemmas.Option.{none-some}
 use Rattle.causes.specs.Answers.{made, refused}
 use Rattle.causes.specs.declared.Cause.{Cause}
 use Rattle.causes.proofs.Results.{never}
@@ -14,13 +15,13 @@ use Rattle.lines.specs.Check.{Open, Seen, cause_of, next, at_end, check_from}
 abbrev pub NoFault : Line → Type 0
 NoFault l = (c : Cause) → l ≡ faulty c → ⊥
 
-pub no-fault : (book : List Text) (s : Seen) (l : Line) → cause_of book s l ≡ none → NoFault l
-no-fault book s l h c e = some-ne-none c (ap (cause_of book s) (sym e) ∙ h)
+pub no-fault : (book : List Text) (s : Seen) (l : Line) → cause_of book s l ≡ None → NoFault l
+no-fault book s l h c e = none-some c (sym h ∙ ap (cause_of book s) e)
 
 -- the lines from line n on, behind what is seen, lead to `last`
 abbrev pub Passes : List Text → ℕ → Seen → Seen → List Line → Type 0
 Passes book n s last [] = (s.ifs ≡ []) × (s ≡ last)
-Passes book n s last (l ∷ ls) = (cause_of book s l ≡ none) × Passes book (suc n) (next n l s) last ls
+Passes book n s last (l ∷ ls) = (cause_of book s l ≡ None) × Passes book (suc n) (next n l s) last ls
 
 module _ (book : List Text) where
   pub check-passes : (n : ℕ) (s last : Seen) (ls : List Line) → check_from book n s ls ≡ made last → Passes book n s last ls
@@ -35,10 +36,10 @@ module _ (book : List Text) where
       (c.0, check-passes (suc n) (next n l s) last ls c.1)
     where
       go : (o : Option Cause) → cause_of book s l ≡ o
-          → elim o [ none ↦ check_from book (suc n) (next n l s) ls | some cause ↦ refused cause n ] ≡ made last
-          → (cause_of book s l ≡ none) × (check_from book (suc n) (next n l s) ls ≡ made last)
-      go none c e = (c, e)
-      go (some cause) c e = absurd (never e)
+          → elim o [ None ↦ check_from book (suc n) (next n l s) ls | Some cause ↦ refused cause n ] ≡ made last
+          → (cause_of book s l ≡ None) × (check_from book (suc n) (next n l s) ls ≡ made last)
+      go None c e = (c, e)
+      go (Some cause) c e = absurd (never e)
 
   pub passes-check : (n : ℕ) (s last : Seen) (ls : List Line) → Passes book n s last ls → check_from book n s ls ≡ made last
   unfolding check_from

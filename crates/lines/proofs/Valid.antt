@@ -4,6 +4,7 @@ use native.Mathlib.Omega.{arith}
 use mathlib.Core.Path.{◌≡◌, refl}
 use mathlib.Core.List.{List, [], ◌∷◌}
 use lib.ListN.{length}
+use Rattle.std.specs.Prelude.{Ok}
 use Rattle.text.specs.Parts.{all}
 use mathlib.Core.Bool.{true}
 use Rattle.text.specs.Text.{Text, is_text, is_plain}
@@ -79,22 +80,22 @@ lines_ok form (s ∷ t ∷ ss) = (line-valid form s, lines_ok form (t ∷ ss))
 
 -- only a listing has a line whose head is a phrase's
 module _ (form : Form) where
-  head-form : (l : Line) → ValidLine form l → head_of l ≡ head.Phrase → form ≡ Listing
+  head-form : (l : Line) → ValidLine form l → head_of l ≡ Ok head.Phrase → form ≡ Listing
   head-form (phrase t) v e = go form v
     where
       go : (f : Form) → ValidLine f (phrase t) → f ≡ Listing
       go Guide w = absurd w.ok
       go Listing w = refl
-  head-form (says (input r t)) v e = let z : ◌≡◌ {A = ℕ} 0 1 = cc in absurd (omega arith)
-  head-form (says (inputs r t os)) v e = let z : ◌≡◌ {A = ℕ} 0 1 = cc in absurd (omega arith)
-  head-form (says (print t)) v e = let z : ◌≡◌ {A = ℕ} 0 1 = cc in absurd (omega arith)
-  head-form (says (printex t)) v e = let z : ◌≡◌ {A = ℕ} 0 1 = cc in absurd (omega arith)
-  head-form (if_line t) v e = let z : ◌≡◌ {A = ℕ} 0 1 = cc in absurd (omega arith)
-  head-form else_line v e = let z : ◌≡◌ {A = ℕ} 0 1 = cc in absurd (omega arith)
-  head-form fi_line v e = let z : ◌≡◌ {A = ℕ} 0 1 = cc in absurd (omega arith)
-  head-form (goto_line k) v e = let z : ◌≡◌ {A = ℕ} 0 1 = cc in absurd (omega arith)
-  head-form (if_skip_line t k) v e = let z : ◌≡◌ {A = ℕ} 0 1 = cc in absurd (omega arith)
-  head-form (faulty c) v e = let z : ◌≡◌ {A = ℕ} 0 1 = cc in absurd (omega arith)
+  head-form (says (input r t)) v e = cc
+  head-form (says (inputs r t os)) v e = cc
+  head-form (says (print t)) v e = cc
+  head-form (says (printex t)) v e = cc
+  head-form (if_line t) v e = cc
+  head-form else_line v e = cc
+  head-form fi_line v e = cc
+  head-form (goto_line k) v e = cc
+  head-form (if_skip_line t k) v e = cc
+  head-form (faulty c) v e = cc
 
-  pub phrase-form : (s : List ℕ) → head_of (line_of form s) ≡ head.Phrase → form ≡ Listing
+  pub phrase-form : (s : List ℕ) → head_of (line_of form s) ≡ Ok head.Phrase → form ≡ Listing
   phrase-form s e = head-form (line_of form s) (line-valid form s) e

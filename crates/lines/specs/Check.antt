@@ -1,7 +1,6 @@
 -- Document 01, "Causes": the check of a guide or a listing over its lines, "line by line 3 to 7 and 9, on one line the lowest; at the
 -- end 7 for an open if".
-use Rattle.std.specs.Prelude.{ℕ, suc, List, [], ◌∷◌, ◌++◌, Bool, true, false, cond, ◌&&◌, length, drop, leb, ltb, eqb}
-use Rattle.std.proofs.Math.Option.{Option, none, some}
+use Rattle.std.specs.Prelude.{ℕ, suc, List, [], ◌∷◌, ◌++◌, Bool, true, false, cond, ◌&&◌, length, drop, leb, ltb, eqb, Option, None, Some}
 use Rattle.causes.specs.Answers.{Result, made, refused, ◌>>=◌}
 use Rattle.causes.specs.Limits.{most_guide_bytes, most_listing_bytes, most_own, most_levels, most_instructions}
 use Rattle.causes.specs.declared.Cause.{Cause}
@@ -41,35 +40,35 @@ nothing_seen = record { own = []; instructions = 0; ifs = [] }
 
 -- "513th instruction (an else line is one)": 9
 abbrev pub room_cause : Seen → Option Cause
-room_cause s = cond (ltb s.instructions most_instructions) none (some Instructions)
+room_cause s = cond (ltb s.instructions most_instructions) None (Some Instructions)
 
 -- in a listing, "phrase late, 33rd, or repeated": 6. A line of another kind came before where there is an instruction, since the first such
 -- line that is no fault is one
 abbrev pub phrase_cause : List Text → Seen → Text → Option Cause
 phrase_cause book s t =
-    cond (eqb s.instructions 0 && ltb (length s.own) most_own && is_new book s.own t) none (some Phrase)
+    cond (eqb s.instructions 0 && ltb (length s.own) most_own && is_new book s.own t) None (Some Phrase)
 
 -- "else .. without its if, second else": 7
 abbrev pub else_cause : List Open → Option Cause → Option Cause
-else_cause [] room = some Nesting
-else_cause (o ∷ os) room = cond o.turned (some Nesting) room
+else_cause [] room = Some Nesting
+else_cause (o ∷ os) room = cond o.turned (Some Nesting) room
 
 -- "fi without its if": 7
 abbrev pub fi_cause : List Open → Option Cause
-fi_cause [] = some Nesting
-fi_cause (o ∷ os) = none
+fi_cause [] = Some Nesting
+fi_cause (o ∷ os) = None
 
 -- the lowest cause of a line behind the lines seen, if it has one
 abbrev pub cause_of : List Text → Seen → Line → Option Cause
 cause_of book s (phrase t) = phrase_cause book s t
 cause_of book s (says x) = room_cause s
 -- "17th level": 7
-cause_of book s (if_line t) = cond (ltb (length s.ifs) most_levels) (room_cause s) (some Nesting)
+cause_of book s (if_line t) = cond (ltb (length s.ifs) most_levels) (room_cause s) (Some Nesting)
 cause_of book s else_line = else_cause s.ifs (room_cause s)
 cause_of book s fi_line = fi_cause s.ifs
 cause_of book s (goto_line k) = room_cause s
 cause_of book s (if_skip_line t k) = room_cause s
-cause_of book s (faulty c) = some c
+cause_of book s (faulty c) = Some c
 
 -- one instruction more, and these ifs open
 abbrev pub one_more_instruction : List Open → Seen → Seen
@@ -100,7 +99,7 @@ at_end (o ∷ os) s = refused Nesting o.line
 unfoldable pub check_from : List Text → ℕ → Seen → List Line → Result Seen
 check_from book n s [] = at_end s.ifs s
 check_from book n s (l ∷ ls) =
-    elim (cause_of book s l) [ none ↦ check_from book (suc n) (next n l s) ls | some cause ↦ refused cause n ]
+    elim (cause_of book s l) [ None ↦ check_from book (suc n) (next n l s) ls | Some cause ↦ refused cause n ]
 
 -- "A guide has at most 16,384 bytes"; a listing "at most 327,680 bytes"
 abbrev pub most_bytes : Form → ℕ

@@ -1,6 +1,5 @@
 -- Document 01, "Guide lines" and "Listing": one line by itself.
-use Rattle.std.specs.Prelude.{ℕ, List, [], ◌∷◌, Bool, true, false, cond, ◌&&◌, length, leb}
-use Rattle.std.proofs.Math.Option.{Option, none, some}
+use Rattle.std.specs.Prelude.{ℕ, List, [], ◌∷◌, Bool, true, false, cond, ◌&&◌, length, leb, Option, None, Some}
 use Rattle.causes.specs.declared.Cause.{Cause}
 use Rattle.causes.specs.declared.Cause.TheVariants.{Byte, Kind, Value, Phrase}
 use Rattle.text.specs.Quoted.{bytes}
@@ -37,18 +36,18 @@ valued false l = faulty Value
 module _ {A : Type 0} where
   -- the line that a field's value makes; 5 where the field has none
   abbrev pub given : Option A → (A → Line) → Line
-  given none f = faulty Value
-  given (some a) f = f a
+  given None f = faulty Value
+  given (Some a) f = f a
 
 -- "OP is eq, ne, lt, le, gt or ge"
 unfoldable pub operator : List ℕ → Option Op
 operator w =
-    cond (same w (bytes "eq")) (some Eq)
-    (cond (same w (bytes "ne")) (some Ne)
-    (cond (same w (bytes "lt")) (some Lt)
-    (cond (same w (bytes "le")) (some Le)
-    (cond (same w (bytes "gt")) (some Gt)
-    (cond (same w (bytes "ge")) (some Ge) none)))))
+    cond (same w (bytes "eq")) (Some Eq)
+    (cond (same w (bytes "ne")) (Some Ne)
+    (cond (same w (bytes "lt")) (Some Lt)
+    (cond (same w (bytes "le")) (Some Le)
+    (cond (same w (bytes "gt")) (Some Gt)
+    (cond (same w (bytes "ge")) (Some Ge) None)))))
 
 -- ---- the fields behind each kind; "wrong count of fields": 4
 

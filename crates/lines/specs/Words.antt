@@ -1,5 +1,5 @@
 -- The words of a line: the kind that a word names, the line of each kind and where its fields begin.
-use Rattle.std.specs.Prelude.{ℕ, List, cond}
+use Rattle.std.specs.Prelude.{ℕ, List, cond, Option, None, Some}
 use Rattle.causes.specs.declared.Cause.TheVariants as cause
 use Rattle.text.specs.Quoted.{bytes}
 use Rattle.text.specs.Parts.{same}
@@ -16,24 +16,23 @@ use Rattle.lines.specs.declared.Kind.TheVariants.{
   Else,
   Fi,
   Goto,
-  Unknown,
 }
 use Rattle.text.specs.Text.{is_text, is_own_text}
 use Rattle.lines.specs.Line.{Line, says, else_line, fi_line, faulty}
 use Rattle.lines.specs.Line.{text_line, phrase_line, input_line, inputs_line, if_fields, bare_line, goto_fields}
 
 -- the kind that a word names
-unfoldable pub kind_of : List ℕ → Kind
+unfoldable pub kind_of : List ℕ → Option Kind
 kind_of w =
-    cond (same w (bytes "phrase")) Phrase
-    (cond (same w (bytes "input")) Input
-    (cond (same w (bytes "inputs")) Inputs
-    (cond (same w (bytes "print")) Print
-    (cond (same w (bytes "printex")) Printex
-    (cond (same w (bytes "if")) If
-    (cond (same w (bytes "else")) Else
-    (cond (same w (bytes "fi")) Fi
-    (cond (same w (bytes "goto")) Goto Unknown))))))))
+    cond (same w (bytes "phrase")) (Some Phrase)
+    (cond (same w (bytes "input")) (Some Input)
+    (cond (same w (bytes "inputs")) (Some Inputs)
+    (cond (same w (bytes "print")) (Some Print)
+    (cond (same w (bytes "printex")) (Some Printex)
+    (cond (same w (bytes "if")) (Some If)
+    (cond (same w (bytes "else")) (Some Else)
+    (cond (same w (bytes "fi")) (Some Fi)
+    (cond (same w (bytes "goto")) (Some Goto) None))))))))
 
 -- where the fields behind a kind's word begin: past the word and a comma
 abbrev pub fields_at : Kind → ℕ
@@ -46,7 +45,6 @@ fields_at If = 3
 fields_at Else = 5
 fields_at Fi = 3
 fields_at Goto = 5
-fields_at Unknown = 1
 
 -- the line of a kind and the fields behind its word
 abbrev pub line_of_kind : Form → Kind → List (List ℕ) → Line
@@ -59,4 +57,8 @@ line_of_kind form If fs = if_fields form fs
 line_of_kind form Else fs = bare_line form else_line fs
 line_of_kind form Fi fs = bare_line form fi_line fs
 line_of_kind form Goto fs = goto_fields form fs
-line_of_kind form Unknown fs = faulty cause.Kind
+
+-- the line of the kind that a word names; "unknown kind": 4
+abbrev pub line_named : Form → Option Kind → List (List ℕ) → Line
+line_named form None fs = faulty cause.Kind
+line_named form (Some kind) fs = line_of_kind form kind fs

@@ -4,18 +4,17 @@
 // none of these causes, read again) and check_lines (the check), whose contracts say the whole answer by these definitions.
 #![tactic(auto)]
 
-use causes::{Cause, Refusal};
 use transcript::Test;
 
 // The two texts that are read line by line.
-#[derive(Clone, Copy)]
+#[derive(Clone, Copy, Debug, PartialEq, Eq)]
 pub enum Form {
     Guide,
     Listing,
 }
 
 // The kind that a line's first field names.
-#[derive(Clone, Copy)]
+#[derive(Clone, Copy, Debug, PartialEq, Eq)]
 pub enum Kind {
     Phrase,
     Input,
@@ -26,11 +25,10 @@ pub enum Kind {
     Else,
     Fi,
     Goto,
-    Unknown,
 }
 
 // A line without its texts, which stay where they are in the text.
-#[derive(Clone, Copy)]
+#[derive(Clone, Copy, Debug, PartialEq, Eq)]
 pub enum Head {
     Phrase,
     Input { register: usize },
@@ -42,12 +40,11 @@ pub enum Head {
     Fi,
     Goto { skip: usize },
     IfSkip { test: Test, skip: usize },
-    Faulty { cause: Cause },
 }
 
-// What the check of a guide or listing finds: how many own phrases and instructions it has, or a refusal.
-#[derive(Clone, Copy)]
-pub enum Checked {
-    Fine { own: usize, instructions: usize },
-    Refused(Refusal),
+// How many own phrases and instructions a guide or listing has.
+#[derive(Clone, Copy, Debug, PartialEq, Eq)]
+pub struct Counts {
+    pub own: usize,
+    pub instructions: usize,
 }

@@ -1,7 +1,7 @@
 -- A line of a listing that is written and read back is the same.
 use mathlib.Core.Path.{◌≡◌, refl, ◌∙◌}
 use mathlib.Core.Bool.{true}
-use mathlib.Core.Option.{some}
+use Rattle.std.specs.Prelude.{Some}
 use native.Mathlib.Omega.{arith}
 use lib.ListN.{length}
 use borrow.Author.Tests.{le-leb}
@@ -25,7 +25,7 @@ use Rattle.lines.proofs.Passes.{NoFault}
 use Rattle.listing.specs.Listing.{operator_word}
 use Rattle.listing.proofs.ListingLines.{line_fields}
 
-operator-read : (o : Op) → operator (operator_word o) ≡ some o
+operator-read : (o : Op) → operator (operator_word o) ≡ Some o
 unfolding operator same
 operator-read Eq = refl
 operator-read Ne = refl

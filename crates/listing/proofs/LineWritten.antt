@@ -3,7 +3,8 @@ use Prim.Native.Nat.{ℕ}
 use mathlib.Core.Path.{◌≡◌, refl, sym, ap, ◌∙◌}
 use mathlib.Core.List.{List}
 use mathlib.Core.Bool.{Bool, true, false, cond}
-use mathlib.Core.Option.{Option, none, some, none-ne-some}
+use Rattle.std.specs.Prelude.{Option, None, Some}
+use Rattle.std.proofs.lemmas.Option.{none-some}
 use Rattle.text.specs.Parts.{join, comma, same}
 use Rattle.text.proofs.Tests.{same-equal}
 use Rattle.text.proofs.Splits.{join-split}
@@ -21,21 +22,21 @@ use Rattle.listing.proofs.ListingLines.{line_fields}
 
 -- w is the word of the operator, if there is one
 Names : List ℕ → Option Op → Type 0
-Names w x = (o : Op) → x ≡ some o → operator_word o ≡ w
+Names w x = (o : Op) → x ≡ Some o → operator_word o ≡ w
 
-operator-or : (w : List ℕ) (o : Op) (x : Option Op) → Names w x → Names w (cond (same w (operator_word o)) (some o) x)
+operator-or : (w : List ℕ) (o : Op) (x : Option Op) → Names w x → Names w (cond (same w (operator_word o)) (Some o) x)
 unfolding Names
 operator-or w o x h = go (same w (operator_word o)) refl
   where
-    go : (b : Bool) → same w (operator_word o) ≡ b → Names w (cond b (some o) x)
+    go : (b : Bool) → same w (operator_word o) ≡ b → Names w (cond b (Some o) x)
     go true e p q = let k : o ≡ p = cc in rw (← k) (sym (same-equal w (operator_word o) e))
     go false e p q = h p q
 
-operator-written : (w : List ℕ) (o : Op) → operator w ≡ some o → operator_word o ≡ w
+operator-written : (w : List ℕ) (o : Op) → operator w ≡ Some o → operator_word o ≡ w
 unfolding operator Names
 operator-written w o h =
-    operator-or w Eq _ (operator-or w Ne _ (operator-or w Lt _ (operator-or w Le _ (operator-or w Gt _ (operator-or w Ge none
-    (λ p q. absurd (none-ne-some p q))))))) o h
+    operator-or w Eq _ (operator-or w Ne _ (operator-or w Lt _ (operator-or w Le _ (operator-or w Gt _ (operator-or w Ge None
+    (λ p q. absurd (none-some p q))))))) o h
 
 -- the fields of a line that is no fault are those that it was read from
 fields-written : {fs : List (List ℕ)} {l : Line} → ReadAs Listing fs l → NoFault l → line_fields l ≡ fs

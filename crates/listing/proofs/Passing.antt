@@ -2,7 +2,8 @@
 use Prim.Native.Nat.{ℕ, suc, ◌+◌, ◌<◌, ◌≤◌}
 use mathlib.Core.Path.{◌≡◌, refl, sym, ap, ◌∙◌}
 use mathlib.Core.List.{List, [], ◌∷◌, ◌++◌, append_assoc, append-nil}
-use mathlib.Core.Option.{none, some-ne-none}
+use Rattle.std.specs.Prelude.{None}
+use Rattle.std.proofs.lemmas.Option.{none-some}
 use native.Mathlib.Nat.{zero-add, suc-add, add-suc}
 use native.Mathlib.Omega.{arith}
 use lib.ListN.{length, length-append}
@@ -70,7 +71,7 @@ module _ (book : List Text) (last : Seen) where
         counted = omega (arith, ap (λ (q : Seen). q.instructions) e);
       }
 
-  phrase-more : (n : ℕ) (s : Seen) (t : Text) (ls : List Line) → phrase_cause book s t ≡ none → Sorted (next n (phrase t) s) ls last
+  phrase-more : (n : ℕ) (s : Seen) (t : Text) (ls : List Line) → phrase_cause book s t ≡ None → Sorted (next n (phrase t) s) ls last
       → Sorted s (phrase t ∷ ls) last
   phrase-more n s t ls e m =
       record {
@@ -105,4 +106,4 @@ module _ (book : List Text) (last : Seen) where
   sorted n s (if_line t ∷ ls) h p = absurd h.0.ok
   sorted n s (else_line ∷ ls) h p = absurd h.0.ok
   sorted n s (fi_line ∷ ls) h p = absurd h.0.ok
-  sorted n s (faulty c ∷ ls) h p = absurd (some-ne-none c p.0)
+  sorted n s (faulty c ∷ ls) h p = absurd (none-some c (sym p.0))

@@ -5,17 +5,15 @@
 
 mod field;
 
-ghost use Rattle.std.specs.Prelude.{◌≡◌, [], ◌∷◌, ◌++◌, ◌<◌};
-ghost use Rattle.causes.specs.Limits.{skips};
+ghost use Rattle.std.specs.Prelude.{◌≡◌, [], ◌∷◌, ◌++◌, ◌≤◌, ◌<◌, length};
+ghost use Rattle.causes.specs.Limits.{most_plate_bytes, skips};
 ghost use Rattle.output.specs.Pour.{poured};
 ghost use Rattle.text.specs.Parts.{comma, LF};
 ghost use Rattle.decimals.specs.Number.{decimalℕ};
-ghost use Rattle.phrases.specs.Lookup.{phrases_in};
 ghost use Rattle.plate.specs.Reading.{got};
 ghost use Rattle.plate.specs.Plate as reader;
 ghost use Rattle.plate.specs.Program.{goto, if_skip};
 ghost use Rattle.fields.specs.Places.{place_at, end_with, values_of, Known};
-ghost use Rattle.plate_texts.specs.TextsAt.{Lent};
 ghost use Rattle.instructions.specs.declared.Head.TheVariants as heads;
 ghost use Rattle.instructions.specs.Heads.{headed, instruction_of};
 ghost use Rattle.listing.specs.Listing.{instruction_fields, lines_text};
@@ -23,26 +21,18 @@ ghost use Rattle.listing.specs.Listing.{instruction_fields, lines_text};
 use crate::field::{put_constant, put_natural, put_operator};
 use fields::Copied;
 use instructions::{Head, accepted_head, accepted_if};
+use phrase_lookup::Lookup;
 use plate_texts::{copy_options, copy_text};
 use transcript::Test;
 
-// A word with its comma, a text, and LF.
-fn put_text_line<'a>(
-    plate: &[u8],
-    at: usize,
-    index: &'a [u32],
-    book: &'a [u8],
-    own: &'a [u8],
-    count: usize,
-    word: &[u8],
-    tail: &mut [u8],
-) -> Copied
-    requires { Lent plate.now index.now book.now own.now count × Known (reader.text (phrases_in book.now own.now count) (place_at plate.now at)) }
-    ensures tail_after { (result.end, tail.new) ≡ poured 0 ((word.now ++ values_of (reader.text (phrases_in book.now own.now count) (place_at plate.now at))) ++ (LF ∷ [])) tail.old }
-    ensures next_value { got 0 (place_at plate.now result.next) ≡ end_with 0 (reader.text (phrases_in book.now own.now count) (place_at plate.now at)) }
+// `print,TEXT` or `printex,TEXT`: the word with its comma, the text, and LF.
+fn put_text_line(plate: &[u8], at: usize, known: &Lookup, word: &[u8], tail: &mut [u8]) -> Copied
+    requires { (length plate.now ≤ most_plate_bytes) × Known (reader.text known.now (place_at plate.now at)) }
+    ensures tail_after { (result.end, tail.new) ≡ poured 0 ((word.now ++ values_of (reader.text known.now (place_at plate.now at))) ++ (LF ∷ [])) tail.old }
+    ensures next_value { got 0 (place_at plate.now result.next) ≡ end_with 0 (reader.text known.now (place_at plate.now at)) }
 {
     let text_at = text_out::put(tail, 0, word);
-    let copied = copy_text(plate, at, index, book, own, count, tail, text_at);
+    let copied = copy_text(plate, at, known, tail, text_at);
     let end = text_out::put_byte(tail, copied.end, b'\n');
     Copied {
         end,
@@ -50,78 +40,32 @@ fn put_text_line<'a>(
     }
 }
 
-// `print,TEXT`.
-fn put_print<'a>(
-    plate: &[u8],
-    at: usize,
-    index: &'a [u32],
-    book: &'a [u8],
-    own: &'a [u8],
-    count: usize,
-    tail: &mut [u8],
-) -> Copied
-    requires { Lent plate.now index.now book.now own.now count × Known (headed plate.now (phrases_in book.now own.now count) (heads.Print at)) }
-    ensures tail_after { (result.end, tail.new) ≡ poured 0 (lines_text (instruction_fields (instruction_of (headed plate.now (phrases_in book.now own.now count) (heads.Print at))) ∷ [])) tail.old }
-    ensures next_value { got 0 (place_at plate.now result.next) ≡ end_with 0 (headed plate.now (phrases_in book.now own.now count) (heads.Print at)) }
-{
-    put_text_line(plate, at, index, book, own, count, b"print,", tail)
-}
-
-// `printex,TEXT`.
-fn put_printex<'a>(
-    plate: &[u8],
-    at: usize,
-    index: &'a [u32],
-    book: &'a [u8],
-    own: &'a [u8],
-    count: usize,
-    tail: &mut [u8],
-) -> Copied
-    requires { Lent plate.now index.now book.now own.now count × Known (headed plate.now (phrases_in book.now own.now count) (heads.Printex at)) }
-    ensures tail_after { (result.end, tail.new) ≡ poured 0 (lines_text (instruction_fields (instruction_of (headed plate.now (phrases_in book.now own.now count) (heads.Printex at))) ∷ [])) tail.old }
-    ensures next_value { got 0 (place_at plate.now result.next) ≡ end_with 0 (headed plate.now (phrases_in book.now own.now count) (heads.Printex at)) }
-{
-    put_text_line(plate, at, index, book, own, count, b"printex,", tail)
-}
-
 // A question's register, a comma and its text, behind the word of the line.
-fn put_question<'a>(
+fn put_question(
     plate: &[u8],
     at: usize,
-    index: &'a [u32],
-    book: &'a [u8],
-    own: &'a [u8],
-    count: usize,
+    known: &Lookup,
     register: usize,
     tail: &mut [u8],
     from: usize,
 ) -> Copied
-    requires { Lent plate.now index.now book.now own.now count × (register < 32) × Known (reader.text (phrases_in book.now own.now count) (place_at plate.now at)) }
-    ensures tail_after { (result.end, tail.new) ≡ poured from (decimalℕ register ++ (comma ∷ values_of (reader.text (phrases_in book.now own.now count) (place_at plate.now at)))) tail.old }
-    ensures next_value { got 0 (place_at plate.now result.next) ≡ end_with 0 (reader.text (phrases_in book.now own.now count) (place_at plate.now at)) }
+    requires { (length plate.now ≤ most_plate_bytes) × (register < 32) × Known (reader.text known.now (place_at plate.now at)) }
+    ensures tail_after { (result.end, tail.new) ≡ poured from (decimalℕ register ++ (comma ∷ values_of (reader.text known.now (place_at plate.now at)))) tail.old }
+    ensures next_value { got 0 (place_at plate.now result.next) ≡ end_with 0 (reader.text known.now (place_at plate.now at)) }
 {
     let end = text_out::put_natural(tail, from, register);
     let text_at = text_out::put_byte(tail, end, b',');
-    copy_text(plate, at, index, book, own, count, tail, text_at)
+    copy_text(plate, at, known, tail, text_at)
 }
 
 // `input,R,TEXT`.
-fn put_input<'a>(
-    plate: &[u8],
-    at: usize,
-    index: &'a [u32],
-    book: &'a [u8],
-    own: &'a [u8],
-    count: usize,
-    register: usize,
-    tail: &mut [u8],
-) -> Copied
-    requires { Lent plate.now index.now book.now own.now count × (register < 32) × Known (headed plate.now (phrases_in book.now own.now count) (heads.Input register at)) }
-    ensures tail_after { (result.end, tail.new) ≡ poured 0 (lines_text (instruction_fields (instruction_of (headed plate.now (phrases_in book.now own.now count) (heads.Input register at))) ∷ [])) tail.old }
-    ensures next_value { got 0 (place_at plate.now result.next) ≡ end_with 0 (headed plate.now (phrases_in book.now own.now count) (heads.Input register at)) }
+fn put_input(plate: &[u8], at: usize, known: &Lookup, register: usize, tail: &mut [u8]) -> Copied
+    requires { (length plate.now ≤ most_plate_bytes) × (register < 32) × Known (headed plate.now known.now (heads.Input register at)) }
+    ensures tail_after { (result.end, tail.new) ≡ poured 0 (lines_text (instruction_fields (instruction_of (headed plate.now known.now (heads.Input register at))) ∷ [])) tail.old }
+    ensures next_value { got 0 (place_at plate.now result.next) ≡ end_with 0 (headed plate.now known.now (heads.Input register at)) }
 {
     let from = text_out::put(tail, 0, b"input,");
-    let asked = put_question(plate, at, index, book, own, count, register, tail, from);
+    let asked = put_question(plate, at, known, register, tail, from);
     let end = text_out::put_byte(tail, asked.end, b'\n');
     Copied {
         end,
@@ -130,23 +74,14 @@ fn put_input<'a>(
 }
 
 // `inputs,R,TEXT,OPTION,..`.
-fn put_inputs<'a>(
-    plate: &[u8],
-    at: usize,
-    index: &'a [u32],
-    book: &'a [u8],
-    own: &'a [u8],
-    count: usize,
-    register: usize,
-    tail: &mut [u8],
-) -> Copied
-    requires { Lent plate.now index.now book.now own.now count × (register < 32) × Known (headed plate.now (phrases_in book.now own.now count) (heads.Inputs register at)) }
-    ensures tail_after { (result.end, tail.new) ≡ poured 0 (lines_text (instruction_fields (instruction_of (headed plate.now (phrases_in book.now own.now count) (heads.Inputs register at))) ∷ [])) tail.old }
-    ensures next_value { got 0 (place_at plate.now result.next) ≡ end_with 0 (headed plate.now (phrases_in book.now own.now count) (heads.Inputs register at)) }
+fn put_inputs(plate: &[u8], at: usize, known: &Lookup, register: usize, tail: &mut [u8]) -> Copied
+    requires { (length plate.now ≤ most_plate_bytes) × (register < 32) × Known (headed plate.now known.now (heads.Inputs register at)) }
+    ensures tail_after { (result.end, tail.new) ≡ poured 0 (lines_text (instruction_fields (instruction_of (headed plate.now known.now (heads.Inputs register at))) ∷ [])) tail.old }
+    ensures next_value { got 0 (place_at plate.now result.next) ≡ end_with 0 (headed plate.now known.now (heads.Inputs register at)) }
 {
     let from = text_out::put(tail, 0, b"inputs,");
-    let asked = put_question(plate, at, index, book, own, count, register, tail, from);
-    let offered = copy_options(plate, asked.next, index, book, own, count, tail, asked.end);
+    let asked = put_question(plate, at, known, register, tail, from);
+    let offered = copy_options(plate, asked.next, known, tail, asked.end);
     let end = text_out::put_byte(tail, offered.end, b'\n');
     Copied {
         end,
@@ -169,41 +104,31 @@ fn put_if(test: Test, skip: usize, tail: &mut [u8]) -> usize
     requires { (test.register < 32) × (skip < skips) }
     ensures { (result, tail.new) ≡ poured 0 (lines_text (instruction_fields (if_skip test skip) ∷ [])) tail.old }
 {
-    let register = test.register;
-    let op = test.op;
-    let constant = test.constant;
     let end = text_out::put(tail, 0, b"if");
-    let end = put_natural(tail, end, register);
-    let end = put_operator(tail, end, op);
-    let end = put_constant(tail, end, constant);
+    let end = put_natural(tail, end, test.register);
+    let end = put_operator(tail, end, test.op);
+    let end = put_constant(tail, end, test.constant);
     let end = put_natural(tail, end, skip);
     text_out::put_byte(tail, end, b'\n')
 }
 
 // The line of the instruction at a bit, and the bit behind it.
-pub fn put_instruction<'a>(
+pub fn put_instruction(
     plate: &[u8],
     at: usize,
     behind: usize,
-    index: &'a [u32],
-    book: &'a [u8],
-    own: &'a [u8],
-    count: usize,
+    known: &Lookup,
     tail: &mut [u8],
 ) -> Copied
-    requires { Lent plate.now index.now book.now own.now count × Known (reader.instruction (phrases_in book.now own.now count) behind (place_at plate.now at)) }
-    ensures tail_after { (result.end, tail.new) ≡ poured 0 (lines_text (instruction_fields (instruction_of (reader.instruction (phrases_in book.now own.now count) behind (place_at plate.now at))) ∷ [])) tail.old }
-    ensures next_value { got 0 (place_at plate.now result.next) ≡ end_with 0 (reader.instruction (phrases_in book.now own.now count) behind (place_at plate.now at)) }
+    requires { (length plate.now ≤ most_plate_bytes) × Known (reader.instruction known.now behind (place_at plate.now at)) }
+    ensures tail_after { (result.end, tail.new) ≡ poured 0 (lines_text (instruction_fields (instruction_of (reader.instruction known.now behind (place_at plate.now at))) ∷ [])) tail.old }
+    ensures next_value { got 0 (place_at plate.now result.next) ≡ end_with 0 (reader.instruction known.now behind (place_at plate.now at)) }
 {
     match accepted_head(plate, at) {
-        Head::Input { register, text } => {
-            put_input(plate, text, index, book, own, count, register, tail)
-        }
-        Head::Inputs { register, text } => {
-            put_inputs(plate, text, index, book, own, count, register, tail)
-        }
-        Head::Print { text } => put_print(plate, text, index, book, own, count, tail),
-        Head::Printex { text } => put_printex(plate, text, index, book, own, count, tail),
+        Head::Input { register, text } => put_input(plate, text, known, register, tail),
+        Head::Inputs { register, text } => put_inputs(plate, text, known, register, tail),
+        Head::Print { text } => put_text_line(plate, text, known, b"print,", tail),
+        Head::Printex { text } => put_text_line(plate, text, known, b"printex,", tail),
         Head::Goto { skip, next } => Copied {
             end: put_goto(skip, tail),
             next,

@@ -1,6 +1,5 @@
 // The test of an if.
-ghost use Rattle.std.specs.Prelude.{◌≡◌, List, ◌&&◌, ◌<◌, ℤ};
-ghost use Rattle.std.specs.Int.Signed.{le_z};
+ghost use Rattle.std.specs.Prelude.{◌≡◌, List, ◌<◌, ℤ};
 ghost use Rattle.transcript.specs.Statement as statement;
 ghost use Rattle.transcript.specs.Perform as perform;
 ghost use Rattle.transcript.specs.declared.Machine.{Machine};
@@ -8,27 +7,17 @@ ghost use Rattle.transcript.specs.Machine.{machine_state};
 
 use transcript::{Op, Test};
 
-// Whether two numbers are the same.
-fn equal(a: i32, b: i32) -> bool
-    ensures { result ≡ (le_z a b && le_z b a) }
-{
-    if a <= b {
-        return b <= a;
-    }
-    false
-}
-
 // Whether a value and a constant compare as the operator says.
 pub fn compares(op: Op, value: i32, constant: i32) -> bool
     ensures { result ≡ statement.compares op value constant }
 {
     match op {
-        Op::Eq => equal(value, constant),
-        Op::Ne => !equal(value, constant),
+        Op::Eq => value == constant,
+        Op::Ne => value != constant,
         Op::Lt => value < constant,
         Op::Le => value <= constant,
-        Op::Gt => constant < value,
-        Op::Ge => constant <= value,
+        Op::Gt => value > constant,
+        Op::Ge => value >= constant,
     }
 }
 
@@ -37,8 +26,5 @@ pub fn holds(registers: &[i32; 32], test: Test) -> bool
     requires { test.register < 32 }
     ensures { (answers : List ℤ) (m : Machine) → result ≡ perform.holds test (machine_state registers.now answers m) }
 {
-    let register = test.register;
-    let value = registers[register];
-    let op = test.op;
-    compares(op, value, test.constant)
+    compares(test.op, registers[test.register], test.constant)
 }

@@ -28,7 +28,8 @@ pub fn stepped(m: Machine) -> Machine
     ensures result_value { (registers answers : List ℤ) → machine_state registers answers result ≡ step (machine_state registers answers m) }
     ensures taken_value { (result.taken ≡ m.taken) × (result.steps ≡ m.steps + 1) }
 {
-    let mut next = m;
-    next.steps = m.steps + 1;
-    next
+    Machine {
+        steps: m.steps + 1,
+        ..m
+    }
 }

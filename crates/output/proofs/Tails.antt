@@ -1,15 +1,16 @@
 -- What is written into the lent tail of a buffer is written into the buffer.
-use Prim.Native.Nat.{ℕ, zero, suc, ◌+◌, ◌-◌, min}
+use Prim.Native.Nat.{ℕ, zero, suc, ◌+◌, ◌-◌, ◌≤◌, min}
 use native.Mathlib.Omega.{arith}
 use mathlib.Core.Path.{◌≡◌, refl, sym, ◌∙◌, ap}
 use mathlib.Core.List.{List, [], ◌∷◌, ◌++◌, append-nil}
 use mathlib.Core.Bool.{Bool, true, false}
 use lib.Dec.{leb}
 use lib.ListN.{length, take, drop, length-drop, drop_of_length-le}
-use lib.Seq.{take_all}
+use lib.Seq.{take_all, length-take-le}
 use borrow.Author.Tests.{leb-true, leb-false}
 use Rattle.output.specs.Pour.{up_to, pour, poured}
-use Rattle.output.proofs.Pour.{pour-past}
+use Rattle.output.proofs.Pour.{pour-past, pour-fits}
+use Rattle.output.proofs.Parts.{pour-room}
 
 module _ {A : Type 0} where
   -- what stands before the place stays
@@ -19,6 +20,15 @@ module _ {A : Type 0} where
   pour-front (suc at) new [] = refl
   pour-front zero new (b ∷ old) = refl
   pour-front (suc at) new (b ∷ old) = ap (λ (l : List A). b ∷ l) (pour-front at new old)
+
+  -- the part that has room stands at its place, between what stays
+  pub pour-part : (at n : ℕ) (new old : List A) → at ≤ length old → n ≡ min (length new) (length old - at)
+      → take at old ++ (take n new ++ drop n (drop at old)) ≡ pour at new old
+  pour-part at n new old h e =
+      let long : length (take n new) ≡ n = length-take-le n new (omega arith) in
+      let fits = pour-fits (take n new) (drop at old) (omega (arith, length-drop at old)) in
+      let front = pour-front at (take n new) old in
+      rw long at (rw fits at front) ∙ pour-room at n new old (omega arith)
 
   -- from the place on, or from the buffer's end where the place is past it
   pour-from : (at from : ℕ) (new old : List A) → from ≡ min at (length old) → take from old ++ pour 0 new (drop from old) ≡ pour at new old

@@ -10,16 +10,12 @@ ghost use Rattle.output.specs.Pour.{up_to};
 pub fn sum(a: usize, b: usize) -> usize
     ensures { result ≡ up_to (a + b) }
 {
-    if a <= 18446744073709551615 - b {
-        a + b
-    } else {
-        18446744073709551615
-    }
+    a.saturating_add(b)
 }
 
 // The smaller of two numbers: where the unwritten tail of a buffer begins.
 pub fn least(a: usize, b: usize) -> usize
     ensures { result ≡ min a b }
 {
-    if a < b { a } else { b }
+    a.min(b)
 }

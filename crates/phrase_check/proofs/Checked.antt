@@ -3,8 +3,8 @@ use Prim.Native.Nat.{ℕ, suc, ◌+◌, ◌-◌, ◌≤◌, ◌<◌}
 use native.Mathlib.Omega.{arith}
 use mathlib.Core.Path.{◌≡◌, refl, sym, ap}
 use mathlib.Core.List.{List, []}
-use mathlib.Core.Bool.{true, false, ◌&&◌, and-false}
-use mathlib.Core.Option.{none, some}
+use mathlib.Core.Bool.{Bool, true, false, not, ◌&&◌, and-false}
+use Rattle.std.specs.Prelude.{Option, Some, None, is_some, Ok, Err}
 use lib.ListN.{length, take, drop, drop_of_length-le, length-append}
 use lib.Seq.{drop-cons}
 use lib.Dec.{ltb}
@@ -18,7 +18,8 @@ use Rattle.text.proofs.Splits.{split-some}
 use Rattle.phrases.specs.Phrases.{place, find, is_new}
 use Rattle.phrases.specs.Book.{is_next, phrases_from, book_phrases, good_from, good_texts}
 use Rattle.phrases.specs.Lookup.{ended, book_texts, book_answer}
-use Rattle.phrases.specs.declared.Book.TheVariants.{Holds, Bad}
+use Rattle.causes.specs.declared.Cause.TheVariants.{Book}
+use Rattle.causes.specs.declared.Refusal.{Refusal}
 use Rattle.phrases.proofs.Stands.{new-nowhere}
 use Rattle.phrases.proofs.BookLines.{Whole, whole-none, front-texts, whole-next}
 
@@ -31,13 +32,23 @@ module _ (earlier : List Text) (t : Text) where
   pub next-no-text : is_text t ≡ false → is_next earlier t ≡ false
   next-no-text h = rw h
 
-  pub next-repeated : {i : ℕ} → is_text t ≡ true → place earlier t ≡ some i → is_next earlier t ≡ false
+  next-repeated : {i : ℕ} → is_text t ≡ true → place earlier t ≡ Some i → is_next earlier t ≡ false
   unfolding find place
   next-repeated h k = rw (h, k)
 
-  pub next-good : length earlier < 256 → is_text t ≡ true → place earlier t ≡ none → is_next earlier t ≡ true
+  next-good : length earlier < 256 → is_text t ≡ true → place earlier t ≡ None → is_next earlier t ≡ true
   unfolding find place
   next-good l h k = rw (lt-ltb (length earlier) 256 l, h, k)
+
+  -- by what the search for the line finds
+  pub next-found : length earlier < 256 → is_text t ≡ true → (b : Bool) → is_some (place earlier t) ≡ not b → b ≡ is_next earlier t
+  next-found l h b e = go (place earlier t) refl b e
+    where
+      go : (o : Option ℕ) → place earlier t ≡ o → (b : Bool) → is_some o ≡ not b → b ≡ is_next earlier t
+      go None k true e = sym (next-good l h k)
+      go None k false e = cc
+      go (Some i) k true e = cc
+      go (Some i) k false e = sym (next-repeated h k)
 
   -- a good line has at most 64 bytes, and there are fewer than 256 before it
   pub next_small : is_next earlier t ≡ true → (length t ≤ 64) × (length earlier < 256)
@@ -46,10 +57,14 @@ module _ (earlier : List Text) (t : Text) where
       ((text-size t (and_parts (is_text t) (is_new [] earlier t) tests.0).0).1, ltb-true _ _ tests.1)
 
   -- a good line is none of those before it
-  pub next-new : is_next earlier t ≡ true → place earlier t ≡ none
+  pub next-new : is_next earlier t ≡ true → place earlier t ≡ None
   next-new h =
       let tests = and_parts (is_text t && is_new [] earlier t) (ltb (length earlier) 256) h in
       (new-nowhere [] earlier t (and_parts (is_text t) (is_new [] earlier t) tests.0).1).1
+
+-- the refusal of a book, by its first bad line
+abbrev pub bad_line : ℕ → Refusal
+bad_line n = record { cause = Book; place = n }
 
 -- ---- the lines before the place a are n good lines
 
@@ -64,9 +79,9 @@ unfolding book_phrases good_texts book_texts ended split
 good_none s = record { whole = whole-none; count = refl; rest = refl; good = refl }
 
 module _ (s : List ℕ) (a n : ℕ) (g : GoodLines s a n) where
-  pub good-end : length s ≤ a → book_answer (book_phrases s) ≡ Holds n
+  pub good-end : length s ≤ a → book_answer (book_phrases s) ≡ Ok n
   unfolding phrases_from split
-  good-end h = rw (g.rest, drop_of_length-le s h) (ap Holds (sym g.count))
+  good-end h = rw (g.rest, drop_of_length-le s h) (ap (λ m. Ok m) (sym g.count))
 
   pub good-texts-end : length s ≤ a → good_texts s ≡ book_texts (take a s)
   unfolding good_from split
@@ -74,21 +89,21 @@ module _ (s : List ℕ) (a n : ℕ) (g : GoodLines s a n) where
 
   -- the line that starts at a ends at e
   module _ (e : ℕ) (k : e ≡ a + until_byte LF (drop a s)) where
-    pub last-bad : a < length s → e ≡ length s → book_answer (book_phrases s) ≡ Bad (n + 1)
+    pub last-bad : a < length s → e ≡ length s → book_answer (book_phrases s) ≡ Err (bad_line (n + 1))
     unfolding phrases_from
     last-bad h l =
         let m : e - a ≡ suc (e - (a + 1)) = omega arith in
-        rw (g.rest, part-last LF s a e k l, m, drop-cons s a 0 h) (ap Bad (omega (arith, g.count)))
+        rw (g.rest, part-last LF s a e k l, m, drop-cons s a 0 h) (ap (λ m. Err (bad_line m)) (omega (arith, g.count)))
 
     pub good-texts-last : e ≡ length s → good_texts s ≡ book_texts (take a s)
     unfolding good_from
     good-texts-last l = rw (g.good, part-last LF s a e k l)
 
     module _ (h : e < length s) where
-      pub line-bad : is_next (book_texts (take a s)) (take (e - a) (drop a s)) ≡ false → book_answer (book_phrases s) ≡ Bad (n + 1)
+      pub line-bad : is_next (book_texts (take a s)) (take (e - a) (drop a s)) ≡ false → book_answer (book_phrases s) ≡ Err (bad_line (n + 1))
       unfolding phrases_from
       line-bad b =
-          rw (g.rest, part-first LF s a e k h, (split-some LF (drop (e + 1) s)).2, b, phrases_from) (ap Bad (omega (arith, g.count)))
+          rw (g.rest, part-first LF s a e k h, (split-some LF (drop (e + 1) s)).2, b, phrases_from) (ap (λ m. Err (bad_line m)) (omega (arith, g.count)))
 
       pub good-texts-bad : is_next (book_texts (take a s)) (take (e - a) (drop a s)) ≡ false → good_texts s ≡ book_texts (take a s)
       unfolding good_from

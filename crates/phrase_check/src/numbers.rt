@@ -11,11 +11,7 @@ pub fn clear(index: &mut [u32])
     requires { book_numbers ≤ length index.old }
     ensures { index.new ≡ pour 0 (index_of []) index.old }
 {
-    let mut i = 0;
-    while i < ENTRIES_AT {
-        index[i] = 0;
-        i += 1;
-    }
+    index[..ENTRIES_AT].fill(0);
 }
 
 // Enters a text, of this key, that starts at a place, behind n others: it is the last of its list.

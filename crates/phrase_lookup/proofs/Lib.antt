@@ -1,3 +1,1 @@
-mod Absent
-mod SignSearch
 mod OwnSigns

@@ -1,7 +1,7 @@
 -- The numbers of the own phrases, searched by their signs.
 use Prim.Native.Nat.{ℕ, zero, suc, ◌+◌, ◌-◌, ◌/◌, ◌%◌, ◌≤◌, ◌<◌}
 use native.Mathlib.Omega.{arith}
-use mathlib.Core.Path.{◌≡◌, refl, ap, ◌∙◌}
+use mathlib.Core.Path.{◌≡◌, refl}
 use mathlib.Core.List.{List}
 use mathlib.Core.Bool.{Bool, true, false}
 use lib.ListN.{length, take, drop, get_or, length-take, length-drop}
@@ -15,12 +15,10 @@ use Rattle.phrases.specs.Index.{key, Indexed}
 use Rattle.phrases.specs.Own.{sign_of, own_text, OwnAt, OwnNumbers}
 use Rattle.phrases.proofs.Entries.{index-long, indexed-count}
 use Rattle.phrases.proofs.OwnEntries.{own_room, other_sign}
-use Rattle.phrase_lookup.specs.Signs.{until_sign}
-use Rattle.phrase_lookup.proofs.SignSearch.{sign-skipped}
 
 -- a text of another key or length than the number says is another text; own phrases are shorter than 128 bytes
 module _ (index book own : List ℕ) (k : ℕ) (i : Indexed index book) (o : OwnAt index book own k) (t : Text) (weight : ℕ) (w : weight ≡ key t) where
-  other_text : (get_or index (129 + get_or index 0 0 + k) 0 / 4096 ≡ sign_of weight (length t % 128) → ⊥) → same t (own_text own k) ≡ false
+  pub other_text : (get_or index (129 + get_or index 0 0 + k) 0 / 4096 ≡ sign_of weight (length t % 128) → ⊥) → same t (own_text own k) ≡ false
   other_text n = go (ltb (length t) 128) refl
     where
       go : (v : Bool) → ltb (length t) 128 ≡ v → same t (own_text own k) ≡ false
@@ -45,17 +43,5 @@ module _ (index book own : List ℕ) (n : ℕ) (i : Indexed index book) (f : n �
     pub numbers-length : length (numbers_in index n count) ≡ count
     numbers-length = rw (size, length-take, length-drop) (omega (arith, numbers-end count o))
 
-    number_at : (k : ℕ) → k < count → get_or (numbers_in index n count) k 0 ≡ get_or index (129 + get_or index 0 0 + k) 0
+    pub number_at : (k : ℕ) → k < count → get_or (numbers_in index n count) k 0 ≡ get_or index (129 + get_or index 0 0 + k) 0
     number_at k h = rw (size, get_or-take count (drop (129 + n) index) k 0 h, get_or-drop, f)
-
-    -- the text is none of the own phrases in front of the next number of its sign
-    pub others-on : (t : Text) (weight : ℕ) → weight ≡ key t → (k r : ℕ)
-        → r ≡ k + until_sign (sign_of weight (length t % 128)) k (numbers_in index n count) → r ≤ count
-        → ((j : ℕ) → j < k → same t (own_text own j) ≡ false) → (j : ℕ) → j < r → same t (own_text own j) ≡ false
-    others-on t weight w k r e h before j l = go (ltb j k) refl
-      where
-        go : (v : Bool) → ltb j k ≡ v → same t (own_text own j) ≡ false
-        go true v = before j (ltb-true j k v)
-        go false v =
-            let here = sign-skipped (sign_of weight (length t % 128)) (numbers_in index n count) k j (ltb-false j k v) (omega (arith, numbers-length)) (omega arith) in
-            other_text index book own j i (o.each j (omega arith)) t weight w (λ s. here (ap (λ x. x / 4096) (number_at j (omega arith)) ∙ s))

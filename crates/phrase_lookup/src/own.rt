@@ -1,12 +1,11 @@
 // The own phrases by their numbers, which stand behind the index of the book.
 ghost use Rattle.std.specs.Prelude.{◌≡◌, ◌+◌, ◌<◌, length, get_or, set};
 ghost use Rattle.phrases.specs.Phrases as phrases;
-ghost use Rattle.phrases.specs.Lookup.{own_texts, place_answer};
+ghost use Rattle.phrases.specs.Lookup.{own_texts};
 ghost use Rattle.phrases.specs.Index.{key, Indexed, entries_at};
 ghost use Rattle.phrases.specs.Own.{own_number, own_text, OwnAt, OwnNumbers, own_places, own_sizes};
 
-use crate::signs::find_sign;
-use phrases::{ENTRIES_AT, OWN_KEYS, OWN_PLACES, OWN_SIZES, Place, count_of, key_of};
+use phrases::{ENTRIES_AT, OWN_KEYS, OWN_PLACES, OWN_SIZES, count_of, key_of};
 
 // Enters the number of own phrase k, whose text starts at a place.
 pub fn enter_own(index: &mut [u32], k: usize, at: usize, text: &[u8])
@@ -45,23 +44,19 @@ pub fn find_own(
     count: usize,
     weight: usize,
     text: &[u8],
-) -> Place
+) -> Option<usize>
     requires { Indexed index.now book.now × OwnNumbers index.now book.now own.now count × (weight ≡ key text.now) }
-    ensures { result ≡ place_answer (phrases.place (own_texts count own.now) text.now) }
+    ensures { result ≡ phrases.place (own_texts count own.now) text.now }
 {
-    let wanted = (weight % OWN_KEYS * OWN_SIZES + text.len() % OWN_SIZES) as u32;
+    let sign = weight % OWN_KEYS * OWN_SIZES + text.len() % OWN_SIZES;
     let first = ENTRIES_AT + count_of(index);
-    let end = first + count;
-    let numbers = &index[first..end];
-    let mut k = 0;
-    loop {
-        k = find_sign(numbers, k, wanted);
-        if k == count {
-            return Place::Missing;
+    let numbers = &index[first..first + count];
+    for (k, &number) in numbers.iter().enumerate() {
+        if number as usize / OWN_PLACES == sign
+            && text_parts::same(text, own_at(index, book, own, k))
+        {
+            return Some(k);
         }
-        if text_parts::same(text, own_at(index, book, own, k)) {
-            return Place::At(k);
-        }
-        k += 1;
     }
+    None
 }

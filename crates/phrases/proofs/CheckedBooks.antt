@@ -9,22 +9,22 @@ use Rattle.text.specs.Parts.{split}
 use Rattle.phrases.specs.Book.{book_phrases, phrases_from}
 use Rattle.phrases.specs.Lookup.{ended, book_texts}
 use Rattle.phrases.specs.Index.{entries_at, book_numbers, entries_from, index_of, book_check, behind, Indexed, CheckedBook}
-use Rattle.phrases.specs.declared.Book as book
-use Rattle.phrases.specs.declared.Book.TheVariants.{Holds}
+use Rattle.std.specs.Prelude.{Result, Ok}
+use Rattle.causes.specs.declared.Refusal.{Refusal}
 use Rattle.phrases.proofs.Answers.{answer-is, book-is}
 use Rattle.phrases.proofs.Keys.{different-none}
 use Rattle.phrases.proofs.Entries.{index-length}
 use Rattle.phrases.proofs.Entered.{none-zeros}
 
 -- what the check says of a book that it finds good, where it was lent room for so many own phrases behind the longest index
-pub checked-book : (own : ℕ) (b index last : List ℕ) {n : ℕ} {r : book.Book} → (r, last) ≡ book_check b index
-    → ((n : ℕ) → r ≡ Holds n → Indexed last b) → book_numbers + own ≤ length last → r ≡ Holds n → CheckedBook own last b
+pub checked-book : (own : ℕ) (b index last : List ℕ) {n : ℕ} {r : Result ℕ Refusal} → (r, last) ≡ book_check b index
+    → ((n : ℕ) → r ≡ Ok n → Indexed last b) → book_numbers + own ≤ length last → r ≡ Ok n → CheckedBook own last b
 checked-book own b index last {n} e i l h =
     record { indexed = i n h; room = omega (arith, (i n h).few); phrases = book-is b (sym (answer-is b index e) ∙ h) }
 
 -- ---- no book
 
-none-index : replicate 129 0 ≡ index_of []
+pub none-index : replicate 129 0 ≡ index_of []
 unfolding index_of entries_from
 none-index = sym (ap (◌∷◌ 0) (append-nil _ ∙ none-zeros 0 128))
 

@@ -5,8 +5,7 @@ use native.Mathlib.Nat.{zero-add}
 use native.Mathlib.Numerals.{add-one}
 use mathlib.Core.Path.{◌≡◌, refl, sym, ap, subst, ◌∙◌}
 use mathlib.Core.List.{List, [], ◌∷◌, ◌++◌, append-nil, append_assoc}
-use mathlib.Core.Bool.{Bool, true, false, true≢false}
-use mathlib.Core.Option.{none}
+use Rattle.std.specs.Prelude.{None}
 use lib.ListN.{length, take, drop, get_or, set, length-set, length-drop, length-append, replicate, get_or-replicate}
 use lib.Seq.{length-take-le, take_all, take-append_seam, set-append_left}
 use Rattle.output.specs.Pour.{pour}
@@ -15,8 +14,6 @@ use Rattle.text.specs.Parts.{split}
 use Rattle.text.specs.Text.{Text}
 use Rattle.phrases.specs.Phrases.{place}
 use Rattle.phrases.specs.Book.{good_texts}
-use Rattle.phrases.specs.declared.Book as answer
-use Rattle.phrases.specs.declared.Book.TheVariants.{Holds, Bad}
 use Rattle.phrases.specs.Lookup.{ended, book_texts}
 use Rattle.phrases.specs.Index.{key, list_of, part_of, last_from, last_of, lasts_from, entry, entries_from, index_of, behind, Different, Indexed}
 use Rattle.phrases.proofs.Heads.{lasts-length, lasts-more, last-whole}
@@ -129,7 +126,7 @@ module _ (index old book : List ℕ) (a n : ℕ) (e : Entered index old book a n
 
   -- one line more, which ends at b, and its entry
   pub entered-more : (b : ℕ) (last : List ℕ) → length (take (b - a) (drop a book)) ≤ 64 → a ≤ b → b < length book
-      → place (book_texts (take a book)) (take (b - a) (drop a book)) ≡ none
+      → place (book_texts (take a book)) (take (b - a) (drop a book)) ≡ None
       → last ≡ set (set (set index 0 (n + 1)) (list_of (key (take (b - a) (drop a book))) + 1) (n + 1)) (129 + n) ((part_of (key (take (b - a) (drop a book))) * 512 + get_or index (list_of (key (take (b - a) (drop a book))) + 1) 0) * 32768 + a)
       → book_texts (take (b + 1) book) ≡ book_texts (take a book) ++ (take (b - a) (drop a book) ∷ [])
       → Entered last old book (b + 1) (n + 1)
@@ -154,14 +151,6 @@ pub left_is : (index first old book : List ℕ) (a n : ℕ) → Entered index fi
 left_is index first old book a n e is good =
     let ts = book_texts (take a book) in
     rw good (e.numbers ∙ ap (pour 0 (index_of ts)) is ∙ pour-over (index_of []) (index_of ts) old (omega (arith, index-length [], index-length ts)))
-
-abbrev is_bad : answer.Book → Bool
-is_bad (Bad line) = true
-is_bad (Holds n) = false
-
--- a book that is bad holds no number of phrases
-pub not-holding : (line n : ℕ) → Bad line ≡ Holds n → ⊥
-not-holding line n e = true≢false (ap is_bad e)
 
 -- the lines of the whole book
 pub indexed-whole : (index book : List ℕ) (a : ℕ) → Indexed index (take a book) → length book ≤ a → Indexed index book

@@ -4,7 +4,7 @@ use native.Mathlib.Omega.{arith}
 use mathlib.Core.Path.{◌≡◌, refl, sym, ap, ◌∙◌}
 use mathlib.Core.List.{List, [], ◌∷◌, ◌++◌}
 use mathlib.Core.Bool.{Bool, true, false, true≢false}
-use mathlib.Core.Option.{none, some}
+use Rattle.std.specs.Prelude.{None, Some}
 use lib.ListN.{length, take, get_or, length-append, get_or-append}
 use lib.Seq.{get_or-append_seam}
 use lib.Dec.{eqb, ltb}
@@ -27,20 +27,20 @@ other_way t p h = same-other p t (λ e. true≢false (sym (same-when t p (sym e)
 
 -- ---- the place of a text, by what holds of each text
 
-pub place-absent : (ts : List Text) (t : Text) → ((j : ℕ) → j < length ts → same t (get_or ts j []) ≡ false) → place ts t ≡ none
+pub place-absent : (ts : List Text) (t : Text) → ((j : ℕ) → j < length ts → same t (get_or ts j []) ≡ false) → place ts t ≡ None
 unfolding place
 place-absent [] t h = refl
 place-absent (p ∷ ts) t h = rw (h 0 (omega arith), place-absent ts t (λ j l. h (suc j) (omega arith)))
 
 pub place-first : (ts : List Text) (t : Text) (k : ℕ) → k < length ts → same t (get_or ts k []) ≡ true
-    → ((j : ℕ) → j < k → same t (get_or ts j []) ≡ false) → place ts t ≡ some k
+    → ((j : ℕ) → j < k → same t (get_or ts j []) ≡ false) → place ts t ≡ Some k
 unfolding place
 place-first [] t k l e h = absurd (omega arith)
 place-first (p ∷ ts) t zero l e h = rw e
 place-first (p ∷ ts) t (suc k) l e h =
     rw (h 0 (omega arith), place-first ts t k (omega arith) e (λ j m. h (suc j) (omega arith)))
 
-pub none-same : (ts : List Text) (t : Text) → place ts t ≡ none → (j : ℕ) → j < length ts → same t (get_or ts j []) ≡ false
+pub none-same : (ts : List Text) (t : Text) → place ts t ≡ None → (j : ℕ) → j < length ts → same t (get_or ts j []) ≡ false
 unfolding place
 none-same [] t e j h = absurd (omega arith)
 none-same (p ∷ ts) t e zero h = (not_first (same t p) (place ts t) e).0
@@ -51,7 +51,7 @@ none-same (p ∷ ts) t e (suc j) h = none-same ts t (not_first (same t p) (place
 pub different-none : Different []
 different-none i j h k = absurd (omega arith)
 
-pub different-more : (ts : List Text) (t : Text) → Different ts → place ts t ≡ none → Different (ts ++ (t ∷ []))
+pub different-more : (ts : List Text) (t : Text) → Different ts → place ts t ≡ None → Different (ts ++ (t ∷ []))
 different-more ts t d e i j h k = go (ltb j (length ts)) refl
   where
     go : (v : Bool) → ltb j (length ts) ≡ v → same (get_or (ts ++ (t ∷ [])) i []) (get_or (ts ++ (t ∷ [])) j []) ≡ false
@@ -79,11 +79,11 @@ module _ (ts : List Text) (t : Text) where
       let l = last-whole (list_of (key t)) ts in
       record { bound = l.bound; there = l.there; others = λ j a b. not_listed _ (l.others j a b) }
 
-  pub search-ends : Searched ts t 0 → place ts t ≡ none
+  pub search-ends : Searched ts t 0 → place ts t ≡ None
   search-ends s = place-absent ts t (λ j h. s.others j (omega arith) h)
 
   module _ (next : ℕ) (s : Searched ts t next) (some-text : 0 < next) where
-    pub search-found : Different ts → same t (get_or ts (next - 1) []) ≡ true → place ts t ≡ some (next - 1)
+    pub search-found : Different ts → same t (get_or ts (next - 1) []) ≡ true → place ts t ≡ Some (next - 1)
     search-found d e =
         let within : next - 1 < length ts = omega (arith, s.bound) in
         place-first ts t (next - 1) within e

@@ -4,7 +4,7 @@ use native.Mathlib.Omega.{arith}
 use mathlib.Core.Path.{◌≡◌, refl, sym, ap, subst, ◌∙◌}
 use mathlib.Core.List.{List, []}
 use mathlib.Core.Bool.{Bool, true, false}
-use mathlib.Core.Option.{none, some}
+use Rattle.std.specs.Prelude.{None, Some}
 use lib.ListN.{length, take, drop, get_or, set, length-set, get_or-map}
 use lib.Seq.{get_or-set_other, get_or-take, take-set-le, drop-set-lt}
 use lib.Dec.{eqb}
@@ -15,7 +15,7 @@ use Rattle.text.proofs.Tests.{same-other}
 use Rattle.phrases.specs.Phrases.{place}
 use Rattle.phrases.specs.Lookup.{book_texts, phrase_text, own_texts}
 use Rattle.phrases.specs.Index.{key, index_of, Indexed}
-use Rattle.phrases.specs.Own.{sign_of, own_number, own_text, OwnAt, OwnNumbers, OwnKept}
+use Rattle.phrases.specs.Own.{sign_of, own_number, own_start, own_text, OwnAt, OwnNumbers, OwnKept}
 use Rattle.phrases.proofs.Entries.{index-length, indexed-count}
 use Rattle.phrases.proofs.Keys.{place-first, place-absent}
 
@@ -34,7 +34,23 @@ module _ (at : ℕ) (t : Text) (near : at < 4096) where
   unfolding own_number
   number_size h = omega arith
 
+-- an own phrase, by the place where it starts
+pub own-there : (index book own : List ℕ) (k at : ℕ) → 129 + length (book_texts book) + k < length index → at < 4096
+    → length (own_text own k) < 128 → at + length (own_text own k) ≤ length own
+    → take (length (own_text own k)) (drop at own) ≡ own_text own k
+    → get_or index (129 + length (book_texts book) + k) 0 ≡ own_number at (own_text own k)
+    → OwnAt index book own k
+own-there index book own k at room near short inside stands number =
+    let starts : own_start index book k ≡ at = ap (λ n. n % 4096) number ∙ number-start at (own_text own k) near in
+    record { room = room; short = short; inside = rw starts inside; stands = rw starts stands; number = rw starts number }
+
 module _ (index book own : List ℕ) (k : ℕ) (i : Indexed index book) (o : OwnAt index book own k) where
+  abbrev start : ℕ
+  start = own_start index book k
+
+  near : start < 4096
+  near = omega arith
+
   -- where the number stands, by the first number of the index
   own-place : 129 + get_or index 0 0 + k ≡ 129 + length (book_texts book) + k
   own-place = omega (arith, indexed-count index book i)
@@ -42,17 +58,17 @@ module _ (index book own : List ℕ) (k : ℕ) (i : Indexed index book) (o : Own
   pub own_room : 129 + get_or index 0 0 + k < length index
   own_room = omega (arith, own-place, o.room)
 
-  number_is : get_or index (129 + get_or index 0 0 + k) 0 ≡ own_number o.at (own_text own k)
+  number_is : get_or index (129 + get_or index 0 0 + k) 0 ≡ own_number start (own_text own k)
   number_is = ap (λ p. get_or index p 0) own-place ∙ o.number
 
-  own-start : get_or index (129 + get_or index 0 0 + k) 0 % 4096 ≡ o.at
-  own-start = rw number_is (number-start o.at (own_text own k) o.near)
+  own-start : get_or index (129 + get_or index 0 0 + k) 0 % 4096 ≡ start
+  own-start = rw number_is (number-start start (own_text own k) near)
 
   own-size : get_or index (129 + get_or index 0 0 + k) 0 / 4096 % 128 ≡ length (own_text own k)
-  own-size = rw number_is (number_size o.at (own_text own k) o.near o.short)
+  own-size = rw number_is (number_size start (own_text own k) near o.short)
 
   own_sign : get_or index (129 + get_or index 0 0 + k) 0 / 4096 ≡ sign_of (key (own_text own k)) (length (own_text own k))
-  own_sign = rw number_is (number-sign o.at (own_text own k) o.near)
+  own_sign = rw number_is (number-sign start (own_text own k) near)
 
   pub own-end : get_or index (129 + get_or index 0 0 + k) 0 % 4096 + get_or index (129 + get_or index 0 0 + k) 0 / 4096 % 128 ≤ length own
   own-end = omega (arith, own-start, own-size, o.inside)
@@ -60,9 +76,9 @@ module _ (index book own : List ℕ) (k : ℕ) (i : Indexed index book) (o : Own
   -- the part of the bytes that the number tells is the own phrase
   pub own-part : (x : ℕ) → x ≡ get_or index (129 + get_or index 0 0 + k) 0 → take (x % 4096 + x / 4096 % 128 - x % 4096) (drop (x % 4096) own) ≡ own_text own k
   own-part x e =
-      let starts : x % 4096 ≡ o.at = rw e own-start in
+      let starts : x % 4096 ≡ start = rw e own-start in
       let sized : x / 4096 % 128 ≡ length (own_text own k) = rw e own-size in
-      let size : o.at + length (own_text own k) - o.at ≡ length (own_text own k) = omega arith in
+      let size : start + length (own_text own k) - start ≡ length (own_text own k) = omega arith in
       rw (starts, sized, size) o.stands
 
   -- a text of another key or length is another text
@@ -83,11 +99,11 @@ module _ (count : ℕ) (own : List ℕ) (t : Text) (w : length (own_texts count 
   as-texts k h v e = ap (same t) (own-text count own k h) ∙ e
 
   pub own-found : (k : ℕ) → k < count → same t (own_text own k) ≡ true → ((j : ℕ) → j < k → same t (own_text own j) ≡ false)
-      → place (own_texts count own) t ≡ some k
+      → place (own_texts count own) t ≡ Some k
   own-found k h e before =
       place-first (own_texts count own) t k (omega (arith, w)) (as-texts k h true e) (λ j l. as-texts j (omega arith) false (before j l))
 
-  pub own-absent : ((j : ℕ) → j < count → same t (own_text own j) ≡ false) → place (own_texts count own) t ≡ none
+  pub own-absent : ((j : ℕ) → j < count → same t (own_text own j) ≡ false) → place (own_texts count own) t ≡ None
   own-absent none_is = place-absent (own_texts count own) t (λ j l. as-texts j (omega (arith, w)) false (none_is j (omega (arith, w))))
 
 -- one more that is another
@@ -118,14 +134,13 @@ module _ (index book own : List ℕ) (j v : ℕ) where
   own-kept : (k : ℕ) → (k ≡ j → ⊥) → OwnAt index book own k → OwnAt (set index (129 + length (book_texts book) + j) v) book own k
   own-kept k h o =
       let other = get_or-set_other index (129 + length (book_texts book) + j) (129 + length (book_texts book) + k) v 0 (λ e. h (omega arith)) in
+      let from : own_start (set index (129 + length (book_texts book) + j) v) book k ≡ own_start index book k = ap (λ n. n % 4096) other in
       record {
         room = simp length-set o.room;
-        at = o.at;
-        near = o.near;
         short = o.short;
-        inside = o.inside;
-        stands = o.stands;
-        number = other ∙ o.number;
+        inside = rw from o.inside;
+        stands = rw from o.stands;
+        number = rw from (other ∙ o.number);
       }
 
   pub own-more : OwnNumbers index book own j → length (own_texts (suc j) own) ≡ suc j

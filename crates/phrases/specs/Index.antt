@@ -2,15 +2,15 @@
 -- on it. A text has a key, and its key names one of 128 lists. The texts are numbered from 1 here, and 0 is no text. An index is a list of
 -- numbers: how many texts there are; the last text of each list; and an entry for each text, with the place where the text starts, the text
 -- of its list before it, and a part of its key. So a text is compared only with those of its list that have its part of the key.
-use Rattle.std.specs.Prelude.{ℕ, zero, suc, ◌+◌, ◌*◌, ◌/◌, ◌%◌, ◌≤◌, ◌<◌, ◌≡◌, List, [], ◌∷◌, ◌++◌, false, cond, length, take, get_or, eqb}
+use Rattle.std.specs.Prelude.{ℕ, zero, suc, ◌+◌, ◌*◌, ◌/◌, ◌%◌, ◌≤◌, ◌<◌, ◌≡◌, List, [], ◌∷◌, ◌++◌, false, cond, length, take, get_or, eqb, Result}
 use Rattle.causes.specs.Answers.{made}
+use Rattle.causes.specs.declared.Refusal.{Refusal}
 use Rattle.causes.specs.Limits.{most_phrases}
 use Rattle.text.specs.Parts.{same}
 use Rattle.text.specs.Text.{Text}
 use Rattle.output.specs.Pour.{pour}
 use Rattle.phrases.specs.Book.{book_phrases, good_texts}
 use Rattle.phrases.specs.Lookup.{book_texts, book_answer}
-use Rattle.phrases.specs.declared.Book as answer
 
 -- ---- the layout: how many numbers there are of each kind
 
@@ -88,7 +88,7 @@ unfoldable pub index_of : List Text → List ℕ
 index_of ts = length ts ∷ (lasts_from 0 lists ts ++ entries_from 0 [] ts)
 
 -- the check of a book, which leaves the index of the good lines in lent numbers
-abbrev pub book_check : List ℕ → List ℕ → answer.Book × List ℕ
+abbrev pub book_check : List ℕ → List ℕ → Result ℕ Refusal × List ℕ
 book_check book index = (book_answer (book_phrases book), pour 0 (index_of (good_texts book)) index)
 
 -- the place behind texts that stand one behind the other from a place on, each ended by LF

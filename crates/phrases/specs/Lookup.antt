@@ -1,16 +1,13 @@
 -- The phrases where they stand: a book's lines, and the lines `phrase,TEXT` at the front of a guide or listing. With the answers of the
 -- book's check and of the lookup.
-use Rattle.std.specs.Prelude.{ℕ, List, [], ◌∷◌, map, Bool, cond, length, get_or, take}
-use Rattle.std.proofs.Math.Option.{Option, none, some}
-use Rattle.causes.specs.Answers.{Result, made, refused}
+use Rattle.std.specs.Prelude.{ℕ, List, [], ◌∷◌, map, Bool, cond, length, get_or, take, Option, Some, None, Result, Ok, Err}
+use Rattle.causes.specs.Answers as answers
+use Rattle.causes.specs.Answers.{made, refused}
+use Rattle.causes.specs.declared.Refusal.{Refusal}
 use Rattle.text.specs.Parts.{split, LF, comma}
 use Rattle.text.specs.Text.{Text}
-use Rattle.phrases.specs.declared.Book as book
-use Rattle.phrases.specs.declared.Book.TheVariants.{Holds, Bad}
 use Rattle.phrases.specs.declared.Found.{Found}
-use Rattle.phrases.specs.declared.Found.TheVariants.{InBook, InOwn, Nowhere}
-use Rattle.phrases.specs.declared.index.Place.{Place}
-use Rattle.phrases.specs.declared.index.Place.TheVariants.{At, Missing}
+use Rattle.phrases.specs.declared.Found.TheVariants.{InBook, InOwn}
 use Rattle.phrases.specs.Phrases.{Phrases, Where, in_book, in_own, nowhere}
 
 -- the parts that end at an LF
@@ -41,18 +38,13 @@ phrase_in b own is_own i = cond is_own (phrase_text (get_or (split LF own) i [])
 
 -- ---- answers
 
--- of the book's check
-abbrev pub book_answer : Result (List Text) → book.Book
-book_answer (made ts) = Holds (length ts)
-book_answer (refused cause line) = Bad line
-
--- of the search among texts
-abbrev pub place_answer : Option ℕ → Place
-place_answer (some i) = At i
-place_answer none = Missing
+-- of the book's check: how many phrases it has, or the cause and its first bad line
+abbrev pub book_answer : answers.Result (List Text) → Result ℕ Refusal
+book_answer (made ts) = Ok (length ts)
+book_answer (refused cause line) = Err (record { cause = cause; place = line })
 
 -- of the lookup
-abbrev pub found_answer : Where → Found
-found_answer (in_book i) = InBook i
-found_answer (in_own i) = InOwn i
-found_answer nowhere = Nowhere
+abbrev pub found_answer : Where → Option Found
+found_answer (in_book i) = Some (InBook i)
+found_answer (in_own i) = Some (InOwn i)
+found_answer nowhere = None

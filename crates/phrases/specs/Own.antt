@@ -29,15 +29,17 @@ own_number at t = sign_of (key t) (length t) * own_places + at
 unfoldable pub own_text : List ℕ → ℕ → Text
 own_text own k = phrase_text (get_or (split LF own) k [])
 
+-- where own phrase k starts, as its number behind the index of the book says
+abbrev pub own_start : List ℕ → List ℕ → ℕ → ℕ
+own_start index book k = get_or index (entries_at + length (book_texts book) + k) 0 % own_places
+
 -- own phrase k has its number behind the index of the book, and its text stands at the place that the number says
 pub record OwnAt (index book own : List ℕ) (k : ℕ) : Type 0 where
   pub room : entries_at + length (book_texts book) + k < length index
-  pub at : ℕ
-  pub near : at < own_places
   pub short : length (own_text own k) < own_sizes
-  pub inside : at + length (own_text own k) ≤ length own
-  pub stands : take (length (own_text own k)) (drop at own) ≡ own_text own k
-  pub number : get_or index (entries_at + length (book_texts book) + k) 0 ≡ own_number at (own_text own k)
+  pub inside : own_start index book k + length (own_text own k) ≤ length own
+  pub stands : take (length (own_text own k)) (drop (own_start index book k) own) ≡ own_text own k
+  pub number : get_or index (entries_at + length (book_texts book) + k) 0 ≡ own_number (own_start index book k) (own_text own k)
 
 -- the first `count` own phrases are there, each with its number
 pub record OwnNumbers (index book own : List ℕ) (count : ℕ) : Type 0 where

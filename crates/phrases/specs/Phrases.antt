@@ -1,6 +1,5 @@
 -- Document 01, "Guide lines" and "Plate bits": phrases, those of the book and the own ones.
-use Rattle.std.specs.Prelude.{ℕ, zero, suc, ◌^◌, List, [], ◌∷◌, Bool, true, false, cond, leb}
-use Rattle.std.proofs.Math.Option.{Option, none, some}
+use Rattle.std.specs.Prelude.{ℕ, zero, suc, ◌^◌, List, [], ◌∷◌, Bool, true, false, cond, leb, Option, Some, None}
 use Rattle.text.specs.Parts.{same}
 use Rattle.text.specs.Text.{Text}
 
@@ -16,19 +15,19 @@ pub data Where : Type 0 where
 
 -- one place further on
 abbrev pub one_more : Option ℕ → Option ℕ
-one_more none = none
-one_more (some i) = some (suc i)
+one_more None = None
+one_more (Some i) = Some (suc i)
 
 -- the first place of a text among texts, from 0
 unfoldable pub place : List Text → Text → Option ℕ
-place [] t = none
-place (p ∷ ps) t = cond (same t p) (some 0) (one_more (place ps t))
+place [] t = None
+place (p ∷ ps) t = cond (same t p) (Some 0) (one_more (place ps t))
 
 -- a place in the book, else one among the own phrases
 abbrev pub book_first : Option ℕ → Option ℕ → Where
-book_first (some i) own = in_book i
-book_first none (some i) = in_own i
-book_first none none = nowhere
+book_first (Some i) own = in_book i
+book_first None (Some i) = in_own i
+book_first None None = nowhere
 
 -- where a text stands as a phrase
 unfoldable pub find : Phrases → Text → Where

@@ -2,30 +2,21 @@
 ghost use Rattle.std.specs.Prelude.{◌≡◌, [], ◌+◌, ◌<◌, length, take, get_or};
 ghost use Rattle.text.specs.Parts.{same};
 ghost use Rattle.phrases.specs.Phrases as phrases;
-ghost use Rattle.phrases.specs.Lookup.{book_texts, place_answer};
+ghost use Rattle.phrases.specs.Lookup.{book_texts};
 ghost use Rattle.phrases.specs.Index.{key, behind, Indexed};
 
 use crate::layout::{
     ENTRIES_AT, ENTRY_KEYS, ENTRY_PARTS_AT, ENTRY_PLACES, ENTRY_TEXTS, LISTS, SECOND_ENTRY_AT,
 };
 
-// The place of a text among texts, from 0.
-#[derive(Clone, Copy)]
-pub enum Place {
-    At(usize),
-    Missing,
-}
-
 // The key of a text, from its first 64 bytes.
 pub fn key_of(text: &[u8]) -> usize
     ensures { result ≡ key text.now }
 {
-    let most = output::least(64, text.len());
+    let front = &text[..text.len().min(64)];
     let mut sum = 0;
-    let mut i = 0;
-    while i < most {
-        sum += text[i] as usize * (i + 1);
-        i += 1;
+    for (i, &b) in front.iter().enumerate() {
+        sum += b as usize * (i + 1);
     }
     sum
 }
@@ -57,23 +48,21 @@ fn is_at(index: &[u32], book: &[u8], k: usize, weight: usize, text: &[u8]) -> bo
     requires { Indexed index.now book.now × (k < length (book_texts book.now)) × (weight ≡ key text.now) }
     ensures { result ≡ same text.now (get_or (book_texts book.now) k []) }
 {
-    if index[ENTRIES_AT + k] as usize / ENTRY_PARTS_AT != weight / LISTS % ENTRY_KEYS {
-        return false;
-    }
-    text_parts::same(text, text_of(index, book, k))
+    index[ENTRIES_AT + k] as usize / ENTRY_PARTS_AT == weight / LISTS % ENTRY_KEYS
+        && text_parts::same(text, text_of(index, book, k))
 }
 
-// The place of a text, of this key, among the lines of a book that end in LF: from the last text of its list to the one before, and so on.
-pub fn find_keyed(index: &[u32], book: &[u8], weight: usize, text: &[u8]) -> Place
+// The place from 0 of a text, of this key, among the lines of a book that end in LF: from the last text of its list to the one before, and so on.
+pub fn find_keyed(index: &[u32], book: &[u8], weight: usize, text: &[u8]) -> Option<usize>
     requires { Indexed index.now book.now × (weight ≡ key text.now) }
-    ensures { result ≡ place_answer (phrases.place (book_texts book.now) text.now) }
+    ensures { result ≡ phrases.place (book_texts book.now) text.now }
 {
     let mut next = index[weight % LISTS + 1] as usize;
     while next != 0 {
         if is_at(index, book, next - 1, weight, text) {
-            return Place::At(next - 1);
+            return Some(next - 1);
         }
         next = index[LISTS + next] as usize / ENTRY_PLACES % ENTRY_TEXTS;
     }
-    Place::Missing
+    None
 }

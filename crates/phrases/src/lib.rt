@@ -12,7 +12,7 @@ mod layout;
 mod numbers;
 mod widths;
 
-pub use index::{Place, find_keyed, key_of, text_of};
+pub use index::{find_keyed, key_of, text_of};
 pub use layout::{
     BOOK_NUMBERS, EMPTY_INDEX_NUMBERS, ENTRIES_AT, ENTRY_KEYS, ENTRY_PLACES, ENTRY_TEXTS,
     INDEX_NUMBERS, LISTS, OWN_KEYS, OWN_PLACES, OWN_SIZES,
@@ -20,17 +20,9 @@ pub use layout::{
 pub use numbers::count_of;
 pub use widths::width_of;
 
-// What the check of a book finds: how many phrases it has, or its first bad line.
-#[derive(Clone, Copy)]
-pub enum Book {
-    Holds(usize),
-    Bad(usize),
-}
-
 // Where a text is a phrase: its place from 0 in the book or among the own phrases.
-#[derive(Clone, Copy)]
+#[derive(Clone, Copy, Debug, PartialEq, Eq)]
 pub enum Found {
     InBook(usize),
     InOwn(usize),
-    Nowhere,
 }

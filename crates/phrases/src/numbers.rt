@@ -5,8 +5,5 @@ ghost use Rattle.std.specs.Prelude.{◌≡◌, get_or};
 pub fn count_of(index: &[u32]) -> usize
     ensures { result ≡ get_or index.now 0 0 }
 {
-    if index.len() == 0 {
-        return 0;
-    }
-    index[0] as usize
+    index.first().map_or(0, |&n| n as usize)
 }

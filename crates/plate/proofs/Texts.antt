@@ -3,7 +3,7 @@ use Prim.Native.Nat.{ℕ, zero, suc, ◌+◌, ◌^◌, ◌≤◌, ◌<◌}
 use mathlib.Core.Path.{◌≡◌, refl, ap}
 use mathlib.Core.List.{List, [], ◌∷◌, ◌++◌, append-nil, append_assoc}
 use mathlib.Core.Bool.{Bool, true, false, cond, false≢true}
-use mathlib.Core.Option.{some}
+use Rattle.std.specs.Prelude.{Some}
 use native.Mathlib.Nat.{lt_of_lt_of_le}
 use native.Mathlib.Omega.{arith}
 use lib.ListN.{length, get_or}
@@ -38,20 +38,20 @@ use Rattle.plate.proofs.Spelled.{takes-spelled, gives-spelled, takes-accented, g
 
 -- ---- written, then read
 
-takes-phrase_at : (ts : List Text) (t : Text) (i : ℕ) → Stands ts t (some i) → Takes (phrase_at ts) (bits_of (width (length ts)) i) t
+takes-phrase_at : (ts : List Text) (t : Text) (i : ℕ) → Stands ts t (Some i) → Takes (phrase_at ts) (bits_of (width (length ts)) i) t
 unfolding phrase_at
 takes-phrase_at ts t i h =
     let fits : i < 2 ^ width (length ts) = lt_of_lt_of_le h.0 (width-enough (length ts)) in
     rw (← h.1) (takes-last _ (takes-judged _ _ (takes-number _ i fits) (lt-ltb i (length ts) h.0)))
 
-takes-in-book : (book own : List Text) (t : Text) (i : ℕ) → Stands book t (some i)
+takes-in-book : (book own : List Text) (t : Text) (i : ℕ) → Stands book t (Some i)
     → Takes (phrase book own) (own_bit book own 0 ++ bits_of (width (length book)) i) t
 unfolding phrase
 takes-in-book [] own t i h = absurd (omega (arith, h.0))
 takes-in-book (b ∷ bs) [] t i h = takes-phrase_at (b ∷ bs) t i h
 takes-in-book (b ∷ bs) (o ∷ os) t i h = takes-then _ (takes-number 1 0 (omega arith)) (takes-phrase_at (b ∷ bs) t i h)
 
-takes-in-own : (book own : List Text) (t : Text) (i : ℕ) → Stands own t (some i)
+takes-in-own : (book own : List Text) (t : Text) (i : ℕ) → Stands own t (Some i)
     → Takes (phrase book own) (own_bit book own 1 ++ bits_of (width (length own)) i) t
 unfolding phrase
 takes-in-own book [] t i h = absurd (omega (arith, h.0))

@@ -9,7 +9,7 @@ use lib.Seq.{drop-drop}
 use lib.Pow.{pow-add, pow_pos}
 use Rattle.bits.specs.Bits.{value_of, bytes_bits}
 use Rattle.bits.specs.Number.{wide_in}
-use Rattle.bits.specs.declared.Wide.TheVariants.{Is}
+use Rattle.std.specs.Prelude.{Some}
 use Rattle.bits.proofs.Bytes.{length-bytes_bits}
 use Rattle.bits.proofs.Numbers.{first_below}
 use Rattle.bits.proofs.Turns.{value-cut}
@@ -24,7 +24,7 @@ pub record Left (plate : List ℕ) (bit left n : ℕ) : Type 0 where
   pub room : bit + (56 - n * 7) ≤ length plate * 8
   pub rest : left ≡ value_of (take (56 - n * 7) (drop bit (bytes_bits plate))) * 2 ^ (n * 7)
 
-pub left-start : (plate : List ℕ) (bit v : ℕ) → wide_in plate bit ≡ Is v → Left plate bit v 0
+pub left-start : (plate : List ℕ) (bit v : ℕ) → wide_in plate bit ≡ Some v → Left plate bit v 0
 left-start plate bit v e =
     let one : v ≡ v * 1 = omega arith in
     record {

@@ -22,8 +22,7 @@ use Rattle.text.specs.Text.{text_byte}
 use Rattle.plate.specs.Writing.{ETX}
 use Rattle.plate.specs.Reading.{Place, Read, got, stopped, number, judge, judge_read, judged}
 use Rattle.plate.specs.Plate.{character}
-use Rattle.fields.specs.declared.Field.{Field}
-use Rattle.fields.specs.declared.Field.TheVariants.{Is, Refused}
+use Rattle.std.specs.Prelude.{Err}
 use Rattle.fields.specs.Places.{place_at, characters_in}
 use Rattle.fields.proofs.Copies.{length-characters}
 use Rattle.plate_characters.specs.Gathered.{gathered}
@@ -64,13 +63,12 @@ module _ {w : ℕ} (some_bits : 0 < w) where
 
   module _ {plate : List ℕ} {at size bit : ℕ} {old out : List ℕ} (s : GatherSoFar w plate at old size out bit) where
     -- what is copied where a character is refused
-    pub gather-refused : {f : Field} {r : Refusal} → f ≡ Refused r → stopped r.cause r.place ≡ character w (place_at plate bit)
-        → out ≡ pour 0 (gathered w plate at f) old
-    gather-refused {f} {r} h e =
+    pub gather-refused : (r : Refusal) → stopped r.cause r.place ≡ character w (place_at plate bit)
+        → out ≡ pour 0 (gathered w plate at (Err r)) old
+    gather-refused r e =
         let bits : r.place - at ≡ size * w = omega (arith, stopped-there w plate bit e, s.text.place) in
         let count : size ≡ (r.place - at) / w = sym (ap (λ n. n / w) bits ∙ mul-div_cancel size some_bits) in
         stored 0 _ old size out s.written ∙ ap (λ n. pour 0 (characters_in w n (drop at (bytes_bits plate))) old) count
-        ∙ ap (λ g. pour 0 (gathered w plate at g) old) (sym h)
 
     module _ {c : ℕ} (next : ℕ) (e : got c (place_at plate next) ≡ character w (place_at plate bit)) where
       -- fewer characters than the plate has bits
@@ -96,10 +94,10 @@ module _ {w : ℕ} (some_bits : 0 < w) where
           }
 
 -- the characters of a text that has room, at the front of the buffer
-pub gathered-text : (w : ℕ) (plate : List ℕ) (at size next : ℕ) (old last : List ℕ) (f : Field) → f ≡ Is size next
-    → last ≡ pour 0 (gathered w plate at f) old → size ≤ length old → take size last ≡ characters_in w size (drop at (bytes_bits plate))
-gathered-text w plate at size next old last f h e room =
+pub gathered-text : (w : ℕ) (plate : List ℕ) (at size : ℕ) (old last : List ℕ)
+    → last ≡ pour 0 (characters_in w size (drop at (bytes_bits plate))) old → size ≤ length old
+    → take size last ≡ characters_in w size (drop at (bytes_bits plate))
+gathered-text w plate at size old last e room =
     let t = characters_in w size (drop at (bytes_bits plate)) in
     let l = length-characters w size (drop at (bytes_bits plate)) in
-    ap (take size) (e ∙ ap (λ g. pour 0 (gathered w plate at g) old) h ∙ pour-fits t old (omega (arith, l)))
-    ∙ take_at t (drop (length t) old) size l
+    ap (take size) (e ∙ pour-fits t old (omega (arith, l))) ∙ take_at t (drop (length t) old) size l

@@ -12,7 +12,7 @@ use Rattle.output.specs.Pour.{poured}
 use Rattle.output.proofs.Pour.{none, then}
 use Rattle.bits.specs.Bits.{bytes_bits}
 use Rattle.bits.specs.Number.{number_in}
-use Rattle.bits.specs.declared.Number.TheVariants.{Ends}
+use Rattle.std.specs.Prelude.{None}
 use Rattle.text.specs.Text.{Text, text_byte}
 use Rattle.plate.specs.Writing.{ETX}
 use Rattle.plate.specs.Reading.{Place, Read, got, stopped, number}
@@ -67,7 +67,7 @@ module _ {w : ℕ} (some_bits : 0 < w) where
   module _ {plate : List ℕ} {at from end bit : ℕ} {old out : List ℕ} (s : CopySoFar w plate at from old end out bit)
       (known : Known (until_etx w (place_at plate at))) where
     -- the text does not end without ETX
-    pub copy-cut : number_in w (drop bit (bytes_bits plate)) ≡ Ends → ⊥
+    pub copy-cut : number_in w (drop bit (bytes_bits plate)) ≡ None → ⊥
     copy-cut e = known.good (so-far-stopped some_bits s.text (judged-stopped (number w) _ Spelling plate bit (number_cut plate bit w e)))
 
     -- what is left

@@ -5,7 +5,6 @@ ghost use Rattle.output.specs.Pour.{poured};
 ghost use Rattle.plate.specs.Reading.{got};
 ghost use Rattle.fields.specs.Places.{place_at, until_etx, values_of, end_with, Known};
 
-use bits::{Number, Wide};
 use fields::Copied;
 
 // The characters of so many bits from a bit on, which are known to be those of a text: one by one, where little code matters.
@@ -17,7 +16,7 @@ pub fn copy_each(plate: &[u8], at: usize, width: usize, out: &mut [u8], from: us
     let mut end = from;
     let mut bit = at;
     loop {
-        let Number::Is(code) = bits_in::read_number(plate, bit, width) else {
+        let Some(code) = bits_in::read_number(plate, bit, width) else {
             // Never: the text is known to be good.
             return Copied { end, next: bit };
         };
@@ -41,20 +40,18 @@ pub fn copy_characters(plate: &[u8], at: usize, out: &mut [u8], from: usize) -> 
     let mut end = from;
     let mut bit = at;
     loop {
-        let Wide::Is(eight) = bits_in::read_eight(plate, bit) else {
+        let Some(eight) = bits_in::read_eight(plate, bit) else {
             return copy_each(plate, bit, 7, out, end);
         };
         let mut left = eight;
-        let mut n: usize = 0;
-        while n < 8 {
-            let code = left / 562949953421312;
+        for _ in 0..8usize {
+            let code = left >> 49;
             bit += 7;
             if code == 3 {
                 return Copied { end, next: bit };
             }
             end = text_out::put_byte(out, end, code as u8);
-            left = left % 562949953421312 * 128;
-            n += 1;
+            left = left % (1 << 49) * 128;
         }
     }
 }

@@ -6,10 +6,16 @@ ghost use Rattle.fields.specs.Places.{place_at, size_read, until_etx};
 ghost use Rattle.plate_characters.specs.Gathered.{gathered};
 
 use crate::spelling::read_character;
+use causes::Refusal;
 use fields::Field;
 
 // How many characters of so many bits stand before ETX, and the bit behind it. Those that were read are in the buffer, as far as it goes.
-pub fn gather(plate: &[u8], at: usize, width: usize, out: &mut [u8]) -> Field
+pub fn gather(
+    plate: &[u8],
+    at: usize,
+    width: usize,
+    out: &mut [u8],
+) -> Result<Field<usize>, Refusal>
     requires { (0 < width) × (width ≤ 8) × (length plate.now ≤ most_plate_bytes) }
     ensures result_value { size_read width plate.now at result ≡ until_etx width (place_at plate.now at) }
     ensures out_after { out.new ≡ pour 0 (gathered width plate.now at result) out.old }
@@ -17,12 +23,9 @@ pub fn gather(plate: &[u8], at: usize, width: usize, out: &mut [u8]) -> Field
     let mut size = 0;
     let mut bit = at;
     loop {
-        let field = read_character(plate, bit, width);
-        let Field::Is(code, next) = field else {
-            return field;
-        };
+        let Field { value: code, next } = read_character(plate, bit, width)?;
         if code == 3 {
-            return Field::Is(size, next);
+            return Ok(Field { value: size, next });
         }
         size = text_out::put_byte(out, size, code as u8);
         bit = next;

@@ -9,13 +9,10 @@ use mir.Syntax.{w32}
 use mir.Val.{to_z, of_z}
 use mir.Facts.{to_z-of_z}
 use Rattle.causes.specs.declared.Cause.TheVariants.{Unused}
-use Rattle.fields.specs.declared.Field.{Field}
-use Rattle.fields.specs.declared.Field.TheVariants.{Is}
 use Rattle.plate.specs.Reading.{Place, got, number, judged, return}
 use Rattle.plate.specs.Plate.{signed, short, constant_by, constant}
-use Rattle.fields.specs.Places.{place_at, field_read}
+use Rattle.fields.specs.Places.{place_at}
 use Rattle.fields.proofs.Onward.{then-got, judged-alike}
-use Rattle.fields.proofs.Answers.{field-got}
 use Rattle.plate.proofs.Constants.{signed_number, signed-small}
 
 -- a number of w bits, up to 32, as an i32
@@ -33,11 +30,11 @@ pub constant-code : (plate : List ℕ) (at : ℕ)
     → judged (number 2) (λ v. leb v 1) Unused (place_at plate at) ≡ judged (number 2) (λ k. ltb k 2) Unused (place_at plate at)
 constant-code plate at = judged-alike (number 2) (λ k. ltb k 2) Unused plate at (λ v. leb v 1) (λ v. sym (leb-suc-suc v 1))
 
-module _ (plate : List ℕ) (at : ℕ) (f : Field) {code next : ℕ}
-    (e : field_read plate f ≡ judged (number 2) (λ v. leb v 1) Unused (place_at plate at)) (h : f ≡ Is code next) where
+module _ (plate : List ℕ) (at code next : ℕ)
+    (e : got code (place_at plate next) ≡ judged (number 2) (λ v. leb v 1) Unused (place_at plate at)) where
   constant-by : constant_by code (place_at plate next) ≡ constant (place_at plate at)
   unfolding constant
-  constant-by = then-got _ constant_by (place_at plate at) (field-got plate f (e ∙ constant-code plate at) h)
+  constant-by = then-got _ constant_by (place_at plate at) (e ∙ constant-code plate at)
 
   pub constant-short : code ≡ 0 → short (place_at plate next) ≡ constant (place_at plate at)
   constant-short z = rw z at constant-by

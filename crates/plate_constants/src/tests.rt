@@ -2,11 +2,11 @@
 ghost use Rattle.std.specs.Prelude.{◌≡◌, ◌≤◌, length};
 ghost use Rattle.causes.specs.Limits.{most_plate_bytes};
 ghost use Rattle.plate.specs.Plate.{op_of, test};
-ghost use Rattle.fields.specs.Places.{place_at, test_read};
+ghost use Rattle.fields.specs.Places.{place_at, field_read};
 
 use crate::constant::read_constant;
-use causes::Cause;
-use fields::{ConstantRead, Field, TestRead, read_field, read_plain};
+use causes::{Cause, Refusal};
+use fields::{Field, read_field, read_plain};
 use transcript::{Op, Test};
 
 // eq 0 to ge 5.
@@ -24,29 +24,20 @@ pub fn op_of(code: usize) -> Op
 }
 
 // R, OP and C.
-pub fn read_test(plate: &[u8], at: usize) -> TestRead
+pub fn read_test(plate: &[u8], at: usize) -> Result<Field<Test>, Refusal>
     requires { length plate.now ≤ most_plate_bytes }
-    ensures { test_read plate.now result ≡ test (place_at plate.now at) }
+    ensures { field_read plate.now result ≡ test (place_at plate.now at) }
 {
-    let first = read_plain(plate, at, 5);
-    let Field::Is(register, op_at) = first else {
-        return TestRead::Refused(first.refusal());
+    let register = read_plain(plate, at, 5)?;
+    let code = read_field(plate, register.next, 3, 5, Cause::Unused)?;
+    let constant = read_constant(plate, code.next)?;
+    let test = Test {
+        register: register.value,
+        op: op_of(code.value),
+        constant: constant.value,
     };
-    let second = read_field(plate, op_at, 3, 5, Cause::Unused);
-    let Field::Is(code, constant_at) = second else {
-        return TestRead::Refused(second.refusal());
-    };
-    let third = read_constant(plate, constant_at);
-    let ConstantRead::Is(constant, next) = third else {
-        return TestRead::Refused(third.refusal());
-    };
-    let op = op_of(code);
-    TestRead::Is(
-        Test {
-            register,
-            op,
-            constant,
-        },
-        next,
-    )
+    Ok(Field {
+        value: test,
+        next: constant.next,
+    })
 }

@@ -6,7 +6,9 @@ use mathlib.Core.List.{List, [], ◌∷◌, ◌++◌, append-nil}
 use mathlib.Core.Bool.{Bool}
 use lib.ListN.{length, take, drop}
 use lib.Seq.{take_at, drop_at, length-take-le}
-use Rattle.causes.specs.Answers.{Result, made, refused, ◌>>=◌, wrote, refusing, output, lent}
+use Rattle.causes.specs.Answers as answers
+use Rattle.std.specs.Prelude.{Ok, Err}
+use Rattle.causes.specs.Answers.{made, refused, ◌>>=◌, wrote, refusing, output, lent}
 use Rattle.causes.specs.declared.Refusal.{Refusal}
 use Rattle.causes.proofs.Lent.{written, written-fits}
 use Rattle.output.specs.Pour.{poured}
@@ -16,14 +18,13 @@ use Rattle.bits.specs.Bits.{bits_of, bytes_bits, filled, bytes_of, pack}
 use Rattle.bits.proofs.Bytes.{length-bytes_bits, length-pack, bytes-append, filled-whole}
 use Rattle.bits.proofs.Numbers.{length-bits_of, value-of-bits}
 use Rattle.plate.specs.Writing.{plate_sized}
-use Rattle.plate_room.specs.declared.Room.TheVariants.{Bytes, Refused}
 use Rattle.plate_room.specs.Plates.{plate_room, room_answer, lent_bits}
 use Rattle.plate_room.proofs.Plates.{Octets, room-is, room_fits, counted, leaves, by-room}
 
 -- ---- what the code answers
 
 -- that part of the array
-pub array-part : (array : List ℕ) (bits lent : ℕ) {n : ℕ} → room_answer (plate_room bits lent) ≡ Bytes n → length array ≡ 2953
+pub array-part : (array : List ℕ) (bits lent : ℕ) {n : ℕ} → room_answer (plate_room bits lent) ≡ Ok n → length array ≡ 2953
     → (length (take n array) ≡ n) × (length (take n array) ≤ lent)
 array-part array bits lent {n} e h =
     let k = room_fits bits lent e in
@@ -40,21 +41,22 @@ bytes-first (suc n) (b ∷ bytes) h k =
     (ap₂ ◌∷◌ (value-of-bits 8 b (h 0)) (bytes-first n bytes (λ i. h (suc i)) (omega arith)))
 
 module _ (array : List ℕ) (bits : ℕ) (buffer : List ℕ) where
-  pub lent_none : {f : Refusal} → room_answer (plate_room bits (length buffer)) ≡ Refused f
+  pub lent_none : {f : Refusal} → room_answer (plate_room bits (length buffer)) ≡ Err f
       → (refusing f.cause f.place, buffer) ≡ lent_bits (bytes_bits array) bits buffer
   unfolding lent_bits
   lent_none e = rw (room-is bits (length buffer) e)
 
-  pub lent-copied : {n : ℕ} → room_answer (plate_room bits (length buffer)) ≡ Bytes n → length array ≡ 2953 → Octets array → (x : ℕ) (new : List ℕ)
-      → (x, new) ≡ poured 0 (take n array) buffer → (wrote n, new) ≡ lent_bits (bytes_bits array) bits buffer
+  pub lent-copied : {n : ℕ} → room_answer (plate_room bits (length buffer)) ≡ Ok n → length array ≡ 2953 → Octets array
+      → (copied : List ℕ) → copied ≡ take n array → (wrote n, copied ++ drop n buffer) ≡ lent_bits (bytes_bits array) bits buffer
   unfolding lent_bits
-  lent-copied {n} e h o x new w =
+  lent-copied {n} e h o copied w =
       let part = array-part array bits (length buffer) e h in
       let fits = written-fits (made (take n array)) (take n array) buffer refl part.1 in
-      let c : new ≡ take n array ++ drop (length (take n array)) buffer = stored 0 (take n array) buffer x new w ∙ pour-fits (take n array) buffer part.1 in
-      let answer : wrote n ≡ wrote (length (take n array)) = ap wrote (sym part.0) in
       let bytes = bytes-first n array o (omega (arith, (room_fits bits (length buffer) e).1)) in
-      rw (room-is bits (length buffer) e, bytes) ((λ i. (answer i, c i)) ∙ sym fits)
+      let answer : wrote n ≡ wrote (length (take n array)) = ap wrote (sym part.0) in
+      let left : copied ++ drop n buffer ≡ take n array ++ drop (length (take n array)) buffer =
+      rw w (ap (λ m. take n array ++ drop m buffer) (sym part.0)) in
+      rw (room-is bits (length buffer) e, bytes) ((λ i. (answer i, left i)) ∙ sym fits)
 
 -- ---- the array holds the plate
 
@@ -75,7 +77,7 @@ module _ (bs : List Bool) (old : List ℕ) {array : List Bool} {r : ℕ} (e : (r
   unfolding lent_bits
   lent-plate = go (plate_room r (length buffer)) refl ∙ sym (by-room bs (bytes_bits old) e buffer)
     where
-      go : (o : Result ℕ) → plate_room r (length buffer) ≡ o
+      go : (o : answers.Result ℕ) → plate_room r (length buffer) ≡ o
           → lent (o >>= λ n. made (output (bytes_of n array))) buffer ≡ leaves bs (bytes_bits old) e buffer o
       go (made n) p =
           let k = room_fits r (length buffer) (ap room_answer p) in

@@ -7,19 +7,20 @@ use mathlib.Core.Bool.{Bool, true, false, cond}
 use lib.ListN.{length, drop, get_or, length-append}
 use lib.Dec.{leb, ltb}
 use borrow.Author.Tests.{ltb-true, ltb-false, leb-true, leb-false, le-leb, lt-leb}
-use Rattle.causes.specs.Answers.{Result, made, refused, Answer, wrote, refusing}
+use Rattle.causes.specs.Answers as answers
+use Rattle.std.specs.Prelude.{Result, Ok, Err}
+use Rattle.causes.specs.declared.Refusal.{Refusal}
+use Rattle.causes.specs.Answers.{made, refused, Answer, wrote, refusing}
 use Rattle.causes.specs.declared.Cause.TheVariants.{PlateTooLong, TooShort}
 use Rattle.causes.proofs.Lent.{written}
 use Rattle.causes.proofs.Results.{never}
 use Rattle.output.specs.Pour.{up_to, pour, poured}
 use Rattle.output.proofs.Pour.{pour-length, pour-past, pour-then}
-use Rattle.output.proofs.Poured.{ended, stored}
+use Rattle.output.proofs.Poured.{ended}
 use Rattle.bits.specs.Bits.{bits_of, bytes_bits, filled, pack}
 use Rattle.bits.proofs.Bytes.{length-bytes_bits, length-pack, filled-whole}
 use Rattle.bits_out.proofs.Writing.{fill}
 use Rattle.plate.specs.Writing.{plate_sized}
-use Rattle.plate_room.specs.declared.Room.{Room}
-use Rattle.plate_room.specs.declared.Room.TheVariants.{Bytes, Refused}
 use Rattle.plate_room.specs.Plates.{plate_room, room_answer}
 use Rattle.text_bits.proofs.Writes.{both}
 
@@ -52,19 +53,19 @@ filling {x} {mid} {last} bs old e f h = go (ltb x 18446744073709551615) refl
 -- ---- the bytes that a buffer has room for
 
 -- what an answer says
-abbrev room_in : Room → Result ℕ
-room_in (Bytes n) = made n
-room_in (Refused f) = refused f.cause f.place
+abbrev room_in : Result ℕ Refusal → answers.Result ℕ
+room_in (Ok n) = made n
+room_in (Err f) = refused f.cause f.place
 
-room_back : (o : Result ℕ) → o ≡ room_in (room_answer o)
+room_back : (o : answers.Result ℕ) → o ≡ room_in (room_answer o)
 room_back (made n) = refl
 room_back (refused cause place) = refl
 
-pub room-is : (bits lent : ℕ) {r : Room} → room_answer (plate_room bits lent) ≡ r → plate_room bits lent ≡ room_in r
+pub room-is : (bits lent : ℕ) {r : Result ℕ Refusal} → room_answer (plate_room bits lent) ≡ r → plate_room bits lent ≡ room_in r
 room-is bits lent e = room_back (plate_room bits lent) ∙ ap room_in e
 
 -- no more bytes than a plate has, and no more than there are
-pub room_fits : (bits lent : ℕ) {n : ℕ} → room_answer (plate_room bits lent) ≡ Bytes n → (n ≡ bits / 8) × (n ≤ 2953) × (n ≤ lent)
+pub room_fits : (bits lent : ℕ) {n : ℕ} → room_answer (plate_room bits lent) ≡ Ok n → (n ≡ bits / 8) × (n ≤ 2953) × (n ≤ lent)
 unfolding plate_room
 room_fits bits lent {n} e = go (leb (bits / 8) 2953) refl (leb (bits / 8) lent) refl (room-is bits lent e)
   where
@@ -88,7 +89,7 @@ module _ (bs old : List Bool) {r : ℕ} {x : List Bool} (dry : (r, x) ≡ poured
   counted = omega (arith, ended 0 (filled bs) old r x dry, length-pack bs, filled-whole bs)
 
   -- what a room leaves of the plate in the buffer
-  abbrev pub leaves : Result ℕ → Answer × List ℕ
+  abbrev pub leaves : answers.Result ℕ → Answer × List ℕ
   leaves (made n) = (wrote n, pack bs ++ drop n buffer)
   leaves (refused cause place) = (refusing cause place, buffer)
 

@@ -1,8 +1,7 @@
 // What a plate has besides its instructions, for the translator and the converter: its front, which is the own phrases and the number of
 // instructions; the filling behind the last one; the room that a plate takes in a lent buffer; and a plate that was made in an array, in a
 // lent buffer.
-// `put_front` and `put_fill` store their bits as the writers of crate text_bits do. `own` is a text whose first `count` lines are
-// `phrase,TEXT`.
+// `put_front` and `put_fill` store their bits as the writers of crate text_bits do.
 #![tactic(auto)]
 
 mod lent;
@@ -13,16 +12,8 @@ ghost use Rattle.std.specs.Prelude.{◌≡◌, ◌-◌, ◌%◌};
 ghost use Rattle.bits.specs.Bits.{bits_of, bytes_bits};
 ghost use Rattle.output.specs.Pour.{poured};
 
-use causes::Refusal;
 pub use lent::lend;
 pub use own::put_front;
-
-// How many bytes of a lent buffer a plate takes, or why it gets none.
-#[derive(Clone, Copy)]
-pub enum Room {
-    Bytes(usize),
-    Refused(Refusal),
-}
 
 // The zero bits that fill the last byte.
 pub fn put_fill(out: &mut [u8], at: usize) -> usize

@@ -1,11 +1,18 @@
 -- Readings of which only the size and the end are known: what was read ends there, or is refused there.
-use Prim.Native.Nat.{ℕ}
+use Prim.Native.Nat.{ℕ, ◌+◌}
 use mathlib.Core.Path.{◌≡◌, refl, sym, ap, ◌∙◌}
 use mathlib.Core.List.{List}
 use native.Mathlib.Omega.{arith}
+use lib.ListN.{length, drop}
 use Rattle.causes.specs.declared.Cause.{Cause}
 use Rattle.plate.specs.Reading.{Place, Read, got, stopped, Reader, return, onward, ◌>>=◌}
-use Rattle.fields.specs.Places.{measured, end_with, values_of}
+use Rattle.text.specs.Text.{Text}
+use Rattle.output.specs.Pour.{up_to}
+use Rattle.bits.specs.Bits.{bytes_bits}
+use Rattle.std.specs.Prelude.{Ok}
+use Rattle.fields.specs.declared.Field.{Field}
+use Rattle.fields.specs.Places.{place_at, size_read, measured, end_with, values_of}
+use Rattle.fields.proofs.Copies.{length-characters}
 
 module _ {A : Type 0} where
   -- something of that size was read that ends there
@@ -43,3 +50,12 @@ module _ {A : Type 0} where
 -- of values, these were read
 pub measured-got : {A : Type 0} (size : List A → ℕ) (v : ℕ) (s : Place) (m : Read (List A)) → got v s ≡ measured size m → got (values_of m) s ≡ m
 measured-got size v s m e = let t = measured-some size v s m e in ap (λ m. got (values_of m) s) (sym t.1) ∙ t.1
+
+-- a text that was read by its size, with what stands before it
+pub measured-behind : (w : ℕ) (plate : List ℕ) (bit front : ℕ) {m : Read Text} {v next : ℕ} (text : Field ℕ)
+    → (v ≡ up_to (front + text.value)) × (next ≡ text.next) → size_read w plate bit (Ok text) ≡ m
+    → got v (place_at plate next) ≡ measured (λ t. up_to (front + length t)) m
+measured-behind w plate bit front {m} {v} {next} text is e =
+    let size = length-characters w text.value (drop bit (bytes_bits plate)) in
+    ap (λ n. got v (place_at plate n)) is.1
+    ∙ measured-is (λ t. up_to (front + length t)) _ (is.0 ∙ ap (λ n. up_to (front + n)) (sym size)) e

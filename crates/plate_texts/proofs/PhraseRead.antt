@@ -1,8 +1,8 @@
 -- A phrase by its place, as the code reads it.
 use Prim.Native.Nat.{ℕ, ◌+◌, ◌≤◌, ◌<◌}
-use mathlib.Core.Path.{◌≡◌, sym, ap, ◌∙◌}
+use mathlib.Core.Path.{◌≡◌, refl, sym, ap, ◌∙◌}
 use mathlib.Core.List.{List, []}
-use mathlib.Core.Bool.{Bool, true, false, cond, true≢false}
+use mathlib.Core.Bool.{Bool, true, false, cond}
 use native.Mathlib.Omega.{arith}
 use lib.ListN.{length, get_or}
 use lib.Dec.{ltb}
@@ -11,29 +11,22 @@ use Rattle.causes.specs.declared.Cause.{Cause}
 use Rattle.causes.specs.declared.Cause.TheVariants.{Unused}
 use Rattle.bits.specs.Ahead.{ahead_in, part_ahead}
 use Rattle.text.specs.Text.{Text}
-use Rattle.phrases.specs.Phrases.{width}
-use Rattle.phrases.specs.Lookup.{book_texts, own_texts, phrase_in}
+use Rattle.phrases.specs.Phrases.{Phrases, width}
 use Rattle.phrases.proofs.Width.{width-least}
-use Rattle.phrases.proofs.Entries.{indexed-count}
-use Rattle.phrases.proofs.Texts.{phrase-in-own, phrase-in-book}
+use Rattle.phrase_lookup.specs.Found as found
+use Rattle.phrase_lookup.specs.Found.{Has}
 use Rattle.fields.specs.declared.Field.{Field}
-use Rattle.fields.specs.declared.Field.TheVariants.{Is, Refused}
+use Rattle.std.specs.Prelude.{Result, Ok, Err}
+use Rattle.causes.specs.declared.Refusal.{Refusal}
 use Rattle.plate.specs.Reading.{Place, Read, got, stopped, Reader, number, judged, return}
 use Rattle.plate.specs.Plate.{phrase_at, phrase}
 use Rattle.fields.specs.Places.{place_at, field_read, Known}
-use Rattle.plate_texts.specs.declared.phrase_place.Source.{Source}
-use Rattle.plate_texts.specs.Sources.{source, source_read}
-use Rattle.plate_texts.specs.TextsAt.{Lent}
-use Rattle.plate_texts.proofs.SourceRead.{both, by-source, Sourced, sourced}
+use Rattle.plate_texts.specs.Sources.{source, place_in}
+use Rattle.plate_texts.proofs.SourceRead.{by-source, Sourced, sourced}
 use Rattle.plate_texts.proofs.Known.{known_same, known-first, known-then, known-judged}
 use Rattle.plate.proofs.Readers.{gives-number, gives-judged}
 use Rattle.fields.proofs.Onward.{then-got, then-stopped, got-good}
 use Rattle.fields.proofs.Ahead.{known-part}
-
--- ---- the number of the book's phrases
-
-pub book-count : {plate index book own : List ℕ} {count : ℕ} → Lent plate index book own count → get_or index 0 0 ≡ length (book_texts book)
-book-count {plate} {index} {book} l = sym (indexed-count index book l.listed.indexed)
 
 -- ---- the place
 
@@ -43,130 +36,87 @@ width_small n h = width-least n 8 h
 -- ---- the phrase there
 
 -- a phrase whose place the code read
-abbrev pub phrase_read : List ℕ → List ℕ → List ℕ → Bool → Field → Read Text
-phrase_read plate book own is_own (Is i next) = got (phrase_in book own is_own i) (place_at plate next)
-phrase_read plate book own is_own (Refused r) = stopped r.cause r.place
+abbrev pub phrase_read : Phrases → List ℕ → Bool → Result (Field ℕ) Refusal → Read Text
+phrase_read c plate is_own (Ok f) = got (found.phrase_at c (place_in is_own f.value)) (place_at plate f.next)
+phrase_read c plate is_own (Err r) = stopped r.cause r.place
 
-module _ (plate book own : List ℕ) (at : ℕ) (is_own : Bool) (ts : List Text)
-    (there : (i : ℕ) → i < length ts → phrase_in book own is_own i ≡ get_or ts i []) where
-  phrase-there : (f : Field) → field_read plate f ≡ judged (number (width (length ts))) (λ i. ltb i (length ts)) Unused (place_at plate at)
-      → phrase_read plate book own is_own f ≡ phrase_at ts (place_at plate at)
-  unfolding phrase_at return
-  phrase-there (Is i next) e =
-      let good = got-good (place_at plate at) (gives-judged (λ i. ltb i (length ts)) Unused (gives-number (width (length ts)))) e in
-      ap (λ t. got t (place_at plate next)) (there i (ltb-true i (length ts) good.1))
-      ∙ then-got _ (λ i. return (get_or ts i [])) (place_at plate at) e
-  phrase-there (Refused r) e = then-stopped _ (λ i. return (get_or ts i [])) (place_at plate at) e
+module _ (c : Phrases) where
+  -- the texts of a source
+  abbrev pub texts_of : Bool → List Text
+  texts_of is_own = cond is_own c.own c.book
 
-module _ (plate book own : List ℕ) (at count n : ℕ) (f : Field)
-    (e : field_read plate f ≡ judged (number (width n)) (λ i. ltb i n) Unused (place_at plate at))
-    (whole : length (own_texts count own) ≡ count) where
-  place-there : (is_own : Bool) → n ≡ length (cond is_own (own_texts count own) (book_texts book))
-      → phrase_read plate book own is_own f ≡ phrase_at (cond is_own (own_texts count own) (book_texts book)) (place_at plate at)
-  place-there true z =
-      phrase-there plate book own at true (own_texts count own) (λ i h. phrase-in-own book own i count (omega arith)) f (rw z at e)
-  place-there false z =
-      phrase-there plate book own at false (book_texts book) (λ i h. phrase-in-book book own i h) f (rw z at e)
+  text-there : (is_own : Bool) (i : ℕ) → found.phrase_at c (place_in is_own i) ≡ get_or (texts_of is_own) i []
+  text-there true i = refl
+  text-there false i = refl
 
--- ---- a phrase by its source, behind the two bits of a code
+  has-place : (is_own : Bool) (i : ℕ) → i < length (texts_of is_own) → Has c (place_in is_own i)
+  has-place true i h = h
+  has-place false i h = h
 
-module _ {plate index book own : List ℕ} {count : ℕ} (l : Lent plate index book own count) (at : ℕ) where
-  abbrev here : Place
-  here = place_at plate (at + 2)
+  -- ---- a phrase by its source, behind the two bits of a code
 
-  abbrev sources : Reader (Bool × ℕ)
-  sources = source (length (book_texts book)) (length (own_texts count own))
+  module _ (plate : List ℕ) (at : ℕ) where
+    abbrev here : Place
+    here = place_at plate (at + 2)
 
-  -- the source is one of the book's texts and of the own ones
-  pub source-alike : (texts : ℕ) → texts ≡ get_or index 0 0 → source texts count here ≡ sources here
-  source-alike texts t = λ i. source ((t ∙ book-count l) i) (sym l.listed.numbers.whole i) here
+    abbrev sources : Reader (Bool × ℕ)
+    sources = source (length c.book) (length c.own)
 
-  pub source_of : (texts : ℕ) (r : Source) → texts ≡ get_or index 0 0 → source_read plate at r ≡ source texts count here → source_read plate at r ≡ sources here
-  source_of texts r t e = e ∙ source-alike texts t
+    -- a source is one of the book's texts and of the own ones
+    pub source-alike : {texts count : ℕ} → texts ≡ length c.book → count ≡ length c.own → source texts count here ≡ sources here
+    source-alike t k = λ i. source (t i) (k i) here
 
-  pub source-stopped : {cause : Cause} {bit : ℕ} → stopped cause bit ≡ sources here
-      → stopped cause bit ≡ phrase (book_texts book) (own_texts count own) here
-  source-stopped e = then-stopped _ (λ s. phrase_at (cond s.0 (own_texts count own) (book_texts book))) here e ∙ by-source (book_texts book) (own_texts count own) here
+    pub source-stopped : {cause : Cause} {bit : ℕ} → stopped cause bit ≡ sources here → stopped cause bit ≡ phrase c.book c.own here
+    source-stopped e = then-stopped _ (λ s. phrase_at (texts_of s.0)) here e ∙ by-source c.book c.own here
 
-  -- where the phrase is known to be good, the bit of its source is
-  pub bit-known : (texts : ℕ) → texts ≡ get_or index 0 0 → Known (phrase (book_texts book) (own_texts count own) here)
-      → (texts ≡ 0 → ⊥) → (count ≡ 0 → ⊥) → Known (number 1 here)
-  bit-known texts t w some more =
-      known-first _ _ _ (known_same (both texts count here some more ∙ source-alike texts t)
-      (known-first _ _ _ (known_same (by-source (book_texts book) (own_texts count own) here) w)))
+    -- where the phrase is known to be good, its source is
+    pub source-known : Known (phrase c.book c.own here) → Known (sources here)
+    source-known w = known-first _ _ _ (known_same (by-source c.book c.own here) w)
 
-  module _ (is_own : Bool) (n k : ℕ) (e : got (is_own, n) (place_at plate (at + k)) ≡ sources here) where
-    pub source-good : 0 < get_or index 0 0 + count → Sourced (book_texts book) (own_texts count own) is_own n
-    source-good h = sourced _ _ _ (omega (arith, h, book-count l, l.listed.numbers.whole)) l.listed.indexed.few (omega (arith, l.listed.few, l.listed.numbers.whole)) e
+    module _ (is_own : Bool) (n k : ℕ) (e : got (is_own, n) (place_at plate (at + k)) ≡ sources here)
+        (s : Sourced c.book c.own is_own n) where
+      abbrev judged_place : Read ℕ
+      judged_place = judged (number (width n)) (λ i. ltb i n) Unused (place_at plate (at + k))
 
-    module _ (s : Sourced (book_texts book) (own_texts count own) is_own n) where
+      place-there : (f : Result (Field ℕ) Refusal) → field_read plate f ≡ judged_place
+          → phrase_read c plate is_own f ≡ phrase_at (texts_of is_own) (place_at plate (at + k))
+      unfolding phrase_at return
+      place-there (Ok f) j =
+          let j' = rw s.all at j in
+          ap (λ t. got t (place_at plate f.next)) (text-there is_own f.value)
+          ∙ then-got _ (λ i. return (get_or (texts_of is_own) i [])) (place_at plate (at + k)) j'
+      place-there (Err r) j = let j' = rw s.all at j in then-stopped _ (λ i. return (get_or (texts_of is_own) i [])) (place_at plate (at + k)) j'
+
       -- the phrase at a place that the code read and judged
-      pub phrase-read : (f : Field) → field_read plate f ≡ judged (number (width n)) (λ i. ltb i n) Unused (place_at plate (at + k))
-          → phrase_read plate book own is_own f ≡ phrase (book_texts book) (own_texts count own) here
-      phrase-read f j = place-there plate book own (at + k) count n f j l.listed.numbers.whole is_own s.all
-          ∙ then-got _ (λ s. phrase_at (cond s.0 (own_texts count own) (book_texts book))) here e
-          ∙ by-source (book_texts book) (own_texts count own) here
+      pub phrase-read : (f : Result (Field ℕ) Refusal) → field_read plate f ≡ judged_place
+          → phrase_read c plate is_own f ≡ phrase c.book c.own here
+      phrase-read f j = place-there f j
+          ∙ then-got _ (λ s. phrase_at (texts_of s.0)) here e
+          ∙ by-source c.book c.own here
+
+      -- there is one
+      pub place-good : (i next : ℕ) → got i (place_at plate next) ≡ judged_place → Has c (place_in is_own i)
+      place-good i next j =
+          let below = (got-good _ (gives-judged (λ i. ltb i n) Unused (gives-number (width n))) j).1 in
+          has-place is_own i (omega (arith, ltb-true i n below, s.all))
 
       -- where the phrase is known to be good, its place is
-      place-known : Known (phrase (book_texts book) (own_texts count own) here)
-          → Known (judged (number (width n)) (λ i. ltb i n) Unused (place_at plate (at + k)))
+      place-known : Known (phrase c.book c.own here) → Known judged_place
       unfolding phrase_at
       place-known w =
           rw s.all (known-first _ _ _
-          (known-then _ (λ s. phrase_at (cond s.0 (own_texts count own) (book_texts book))) here
-          (known_same (by-source (book_texts book) (own_texts count own) here) w) e))
+          (known-then _ (λ s. phrase_at (texts_of s.0)) here (known_same (by-source c.book c.own here) w) e))
 
-      -- a place below the number of a source's phrases, where that is the book
-      place-below : (i : ℕ) → ltb i n ≡ true → is_own ≡ false → i < length (book_texts book)
-      place-below i h z = go is_own z s.all
-        where
-          go : (b : Bool) → b ≡ false → n ≡ length (cond b (own_texts count own) (book_texts book)) → i < length (book_texts book)
-          go true z all = absurd (true≢false z)
-          go false z all = omega (arith, ltb-true i n h)
+      -- the place is the part of what was read ahead
+      pub place-part : (ahead : ℕ) → ahead ≡ ahead_in plate at → k ≤ 3 → Known (phrase c.book c.own here)
+          → {w i : ℕ} → w ≡ width n → i ≡ part_ahead k w ahead → got i (place_at plate (at + k + w)) ≡ judged_place
+      place-part ahead a near known {w} {i} wide part =
+          let same = known-judged (number (width n)) _ Unused plate (at + k) (place-known known) in
+          let few : k + width n ≤ 25 = omega (arith, width_small n s.few) in
+          ap (λ i. got i (place_at plate (at + k + w))) part
+          ∙ ap (λ w. got (part_ahead k w ahead) (place_at plate (at + k + w))) wide
+          ∙ sym (known-part plate ahead at k (width n) a few (known_same same (place-known known))) ∙ same
 
-      -- and where that is the own ones
-      own_below : (i : ℕ) → ltb i n ≡ true → is_own ≡ true → i < count
-      own_below i h z = go is_own z s.all
-        where
-          go : (b : Bool) → b ≡ true → n ≡ length (cond b (own_texts count own) (book_texts book)) → i < count
-          go true z all = omega (arith, ltb-true i n h, l.listed.numbers.whole)
-          go false z all = absurd (true≢false (sym z))
-
-      -- a place that was judged
-      pub place-good : (i next : ℕ) → got i (place_at plate next) ≡ judged (number (width n)) (λ i. ltb i n) Unused (place_at plate (at + k))
-          → (is_own ≡ false → i < length (book_texts book)) × (is_own ≡ true → i < count)
-      place-good i next j =
-          let below = (got-good _ (gives-judged (λ i. ltb i n) Unused (gives-number (width n))) j).1 in
-          (place-below i below, own_below i below)
-
-      -- the phrase at a place that is the part of what was read ahead
-      module _ (ahead : ℕ) (a : ahead ≡ ahead_in plate at) (near : k ≤ 3)
-          (w : Known (phrase (book_texts book) (own_texts count own) here)) {own' : Bool} {i next : ℕ}
-          (r : (own' ≡ is_own) × (i ≡ part_ahead k (width n) ahead) × (next ≡ at + k + width n)) where
-        place-part : got i (place_at plate next) ≡ judged (number (width n)) (λ i. ltb i n) Unused (place_at plate (at + k))
-        place-part =
-            let same = known-judged (number (width n)) _ Unused plate (at + k) (place-known w) in
-            let few : k + width n ≤ 25 = omega (arith, width_small n s.few) in
-            (λ j. got (r.1 j) (place_at plate (r.2 j)))
-            ∙ sym (known-part plate ahead at k (width n) a few (known_same same (place-known w))) ∙ same
-
-        phrase-ahead : got (phrase_in book own own' i) (place_at plate next) ≡ phrase (book_texts book) (own_texts count own) here
-        phrase-ahead = ap (λ b. got (phrase_in book own b i) (place_at plate next)) r.0 ∙ phrase-read (Is i next) place-part
-
-        phrase-below : own' ≡ false → i < length (book_texts book)
-        phrase-below z = (place-good i next place-part).0 (sym r.0 ∙ z)
-
-        phrase-own-below : own' ≡ true → i < count
-        phrase-own-below z = (place-good i next place-part).1 (sym r.0 ∙ z)
-
-  -- a phrase that is known to be good, by its source
-  pub phrase-accepted : (is_own : Bool) (k n : ℕ) {texts : ℕ} → texts ≡ get_or index 0 0
-      → got (is_own, n) (place_at plate (at + k)) ≡ source texts count here → 0 < get_or index 0 0 + count
-      → {ahead : ℕ} → ahead ≡ ahead_in plate at → k ≤ 3 → Known (phrase (book_texts book) (own_texts count own) here)
-      → {own' : Bool} {i next : ℕ} → (own' ≡ is_own) × (i ≡ part_ahead k (width n) ahead) × (next ≡ at + k + width n)
-      → (got (phrase_in book own own' i) (place_at plate next) ≡ phrase (book_texts book) (own_texts count own) here)
-      × ((own' ≡ false → i < length (book_texts book)) × (own' ≡ true → i < count))
-  phrase-accepted is_own k n {texts} t e some {ahead} a near w r =
-      let e' = e ∙ source-alike texts t in
-      let s = source-good is_own n k e' some in
-      (phrase-ahead is_own n k e' s ahead a near w r, (phrase-below is_own n k e' s ahead a near w r, phrase-own-below is_own n k e' s ahead a near w r))
+    pub source-good : (is_own : Bool) (n k : ℕ) → got (is_own, n) (place_at plate (at + k)) ≡ sources here
+        → 0 < length c.book + length c.own → length c.book ≤ 256 → length c.own ≤ 256 → Sourced c.book c.own is_own n
+    source-good is_own n k e some b o = sourced c.book c.own here some b o e

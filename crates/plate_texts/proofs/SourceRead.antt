@@ -34,15 +34,11 @@ both zero count p h k = absurd (h refl)
 both (suc n) zero p h k = absurd (k refl)
 both (suc n) (suc m) p h k = refl
 
--- the bit
-pub bit-book : (texts count : ℕ) (q : Place) (b : ℕ) → b ≡ 0 → got (false, texts) q ≡ return (source_by texts count b) q
+-- what the bit says, behind it
+pub bit-source : (plate : List ℕ) (at texts count b : ℕ) {k n : ℕ} {own : Bool} → ((own, n) ≡ source_by texts count b) × (k ≡ 3)
+    → got (own, n) (place_at plate (at + k)) ≡ return (source_by texts count b) (place_at plate (at + 3))
 unfolding return
-bit-book texts count q b z = rw z
-
-pub bit-own : (texts count : ℕ) (q : Place) (b : ℕ) → (b ≡ 0 → ⊥) → got (true, count) q ≡ return (source_by texts count b) q
-unfolding return
-bit-own texts count q zero h = absurd (h refl)
-bit-own texts count q (suc b) h = refl
+bit-source plate at texts count b e = λ i. got (e.0 i) (place_at plate (at + e.1 i))
 
 -- where a reading ends; a refusal ends nowhere
 abbrev end_at : {A : Type 0} → Read A → ℕ

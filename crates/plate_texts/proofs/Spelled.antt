@@ -1,21 +1,17 @@
 -- A text that is spelled out in characters of w bits, as the code judges it: by its size, then by its rule.
-use Prim.Native.Nat.{ℕ, zero, suc, ◌+◌, ◌≤◌}
+use Prim.Native.Nat.{ℕ, ◌+◌, ◌≤◌}
 use mathlib.Core.Path.{◌≡◌, refl, sym, ap, ◌∙◌}
 use mathlib.Core.List.{List, [], ◌∷◌}
-use mathlib.Core.Bool.{Bool, true, false, ◌&&◌, and-true, and-false}
+use mathlib.Core.Bool.{Bool, true, false, ◌&&◌, and-false}
 use native.Mathlib.Omega.{arith}
-use lib.ListN.{length, get_or, drop}
+use lib.ListN.{length, drop}
 use Rattle.causes.specs.declared.Cause.TheVariants.{Spelling}
 use Rattle.bits.specs.Bits.{bytes_bits}
-use Rattle.text.specs.Utf8.{well_formed}
-use Rattle.text.specs.Text.{Text, text_size, is_plain}
+use Rattle.text.specs.Text.{Text, text_size}
 use Rattle.text.proofs.Tests.{in-range}
-use Rattle.phrases.specs.Phrases.{place, find, is_new}
-use Rattle.phrases.specs.Lookup.{book_texts, own_texts}
-use Rattle.phrases.specs.Index.{Indexed}
-use Rattle.phrases.proofs.Entries.{indexed-count}
+use Rattle.phrases.specs.Phrases.{Phrases, place, find, is_new}
 use Rattle.plate.specs.Reading.{Place, got, stopped}
-use Rattle.plate.specs.Plate.{spelled, is_accented}
+use Rattle.plate.specs.Plate.{spelled}
 use Rattle.fields.specs.Places.{place_at, characters_in, until_etx, values_of}
 use Rattle.fields.proofs.Onward.{judged-got, judged-not}
 use Rattle.fields.proofs.Copies.{length-characters}
@@ -54,24 +50,12 @@ spelled-not w plate at rule {t} e n =
     judged-not (until_etx w) _ Spelling plate at e
     (ap (λ m. text_size t && rule (values_of m)) e ∙ ap (λ b. text_size t && b) n ∙ and-false (text_size t))
 
--- the rule of code 01, test by test
-module _ (book own : List Text) (t : Text) where
-  pub accented-plain : is_plain t ≡ true → false ≡ is_accented book own t
-  accented-plain p = sym (rw p (and-false (is_new book own t && well_formed t)))
-
-  pub accented-new : is_plain t ≡ false → well_formed t ≡ true → is_new book own t ≡ is_accented book own t
-  accented-new p w = rw (p, w) (sym (and-true (is_new book own t && true) ∙ and-true (is_new book own t)))
-
-  pub accented-ill : well_formed t ≡ false → false ≡ is_accented book own t
-  accented-ill w = sym (rw (w, and-false (is_new book own t)) refl)
-
 -- where there is no phrase, every text is new
-pub none-there : (index book own : List ℕ) (count : ℕ) (t : Text) → Indexed index book → get_or index 0 0 + count ≡ 0
-    → is_new (book_texts book) (own_texts count own) t ≡ true
-unfolding place find own_texts
-none-there index book own count t x e = go (book_texts book) (omega (arith, indexed-count index book x)) count (omega arith)
+pub none-there : (c : Phrases) (t : Text) → length c.book + length c.own ≡ 0 → is_new c.book c.own t ≡ true
+unfolding place find
+none-there c t e = go c.book c.own (omega arith) (omega arith)
   where
-    go : (ts : List Text) → length ts ≡ 0 → (k : ℕ) → k ≡ 0 → is_new ts (own_texts k own) t ≡ true
-    go [] h zero w = refl
-    go [] h (suc k) w = absurd (omega arith)
-    go (u ∷ us) h k w = absurd (omega arith)
+    go : (book own : List Text) → length book ≡ 0 → length own ≡ 0 → is_new book own t ≡ true
+    go [] [] h k = refl
+    go [] (u ∷ us) h k = absurd (omega arith)
+    go (u ∷ us) own h k = absurd (omega arith)

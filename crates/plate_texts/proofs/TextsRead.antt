@@ -2,7 +2,7 @@
 use Prim.Native.Nat.{ℕ, zero, suc, ◌+◌, ◌-◌, ◌*◌, ◌≤◌, ◌<◌}
 use mathlib.Core.Path.{◌≡◌, refl, sym, ap, ◌∙◌}
 use mathlib.Core.List.{List, [], ◌∷◌}
-use mathlib.Core.Bool.{true, false, false≢true}
+use mathlib.Core.Bool.{true, false≢true}
 use native.Mathlib.Numerals.{sub-one}
 use native.Mathlib.Omega.{arith}
 use lib.ListN.{length}
@@ -81,13 +81,6 @@ pub by-phrase : (c : Phrases) (q : Place) (code : ℕ) → (code ≡ 0 → ⊥) 
 by-phrase c q zero h k = absurd (h refl)
 by-phrase c q (suc zero) h k = absurd (k refl)
 by-phrase c q (suc (suc j)) h k = refl
-
--- a code that is none of 0, 1 and 2
-pub unused-code : (n k : ℕ) → (k ≡ 0 → ⊥) → (k ≡ 1 → ⊥) → (k ≡ 2 → ⊥) → false ≡ code_with n k
-unused-code n zero h f g = absurd (h refl)
-unused-code n (suc zero) h f g = absurd (f refl)
-unused-code n (suc (suc zero)) h f g = absurd (g refl)
-unused-code n (suc (suc (suc k))) h f g = refl
 
 -- ---- one behind the other
 

@@ -1,11 +1,11 @@
 -- Where a phrase of a plate is looked up: in the book, or among the own phrases.
-use Rattle.std.specs.Prelude.{ℕ, zero, suc, ◌+◌, List, Bool, true, false}
+use Rattle.std.specs.Prelude.{ℕ, zero, suc, ◌+◌, List, Bool, true, false, Result, Ok, Err}
 use Rattle.causes.specs.declared.Refusal.{Refusal}
-use Rattle.causes.specs.declared.Cause.TheVariants.{PlateEnds}
+use Rattle.phrases.specs.declared.Found.{Found}
+use Rattle.phrases.specs.declared.Found.TheVariants.{InBook, InOwn}
 use Rattle.plate.specs.Reading.{Read, got, stopped, Reader, number, return, ◌>>=◌}
 use Rattle.fields.specs.Places.{place_at}
 use Rattle.plate_texts.specs.declared.phrase_place.Source.{Source}
-use Rattle.plate_texts.specs.declared.phrase_place.Source.TheVariants.{Is, Refused}
 
 -- book (0) or own (1): whether the phrase is an own one, and how many phrases there are
 abbrev pub source_by : ℕ → ℕ → ℕ → Bool × ℕ
@@ -21,11 +21,11 @@ source (suc n) (suc k) = do
   return (source_by (suc n) (suc k) b)
 
 -- a source that the code read, whose place stands k bits behind a bit
-abbrev pub source_read : List ℕ → ℕ → Source → Read (Bool × ℕ)
-source_read plate at (Is is_own n k) = got (is_own, n) (place_at plate (at + k))
-source_read plate at (Refused r) = stopped r.cause r.place
+abbrev pub source_read : List ℕ → ℕ → Result Source Refusal → Read (Bool × ℕ)
+source_read plate at (Ok s) = got (s.own, s.n) (place_at plate (at + s.k))
+source_read plate at (Err r) = stopped r.cause r.place
 
--- the refusal that a source is; nothing asks it of a value
-abbrev pub source_refusal : Source → Refusal
-source_refusal (Is is_own n k) = record { cause = PlateEnds; place = k }
-source_refusal (Refused r) = r
+-- the phrase at a place of a source, which is the book or the own phrases
+abbrev pub place_in : Bool → ℕ → Found
+place_in false i = InBook i
+place_in true i = InOwn i

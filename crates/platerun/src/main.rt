@@ -4,58 +4,8 @@
 // instructions, and each takes at most three answers.
 #![tactic(auto)]
 
-use causes::{Ran, Refusal, Report};
-use printed::front;
 use refusal_words::Counted;
 use std::io;
-use tools::Input;
-
-// A refusal: its line to standard output, plain words to standard error. The one has at most 32 bytes, the other at most 160.
-fn refuse(rt: &HostRuntime, r: Refusal) -> io::Result<()> {
-    let mut line = [0; 64];
-    let end = printed::put_refused(&mut line, 0, r);
-    rt.write_all(front(&line, end))?;
-    let mut words = [0; 256];
-    let end = refusal_words::put_words(&mut words, 0, Counted::Bits, r);
-    rt.stderr().write_all(front(&words, end))
-}
-
-// The transcript, and the line behind it, which has at most 73 bytes.
-fn report(rt: &impl Print, transcript: &[u8], r: Report) -> io::Result<()> {
-    let length = r.length;
-    rt.write_all(front(transcript, length))?;
-    let mut line = [0; 128];
-    let end = printed::put_report(&mut line, 0, r);
-    rt.write_all(front(&line, end))
-}
-
-// What is printed of the run.
-fn print(rt: &HostRuntime, plate: &[u8], book: &[u8], answers: &[i32]) -> io::Result<()> {
-    let mut scratch = [0; run::SCRATCH_NUMBERS];
-    let mut transcript = tools::transcript_space();
-    match run::run(plate, book, answers, &mut scratch, &mut transcript) {
-        Ran::Refused(r) => refuse(rt, r),
-        Ran::Done(r) => report(rt, &transcript, r),
-    }
-}
-
-// The book and the answers are read.
-fn run_on(rt: &HostRuntime, plate: &[u8]) -> io::Result<()> {
-    let mut book = [0; tools::BOOK];
-    let Input::Holds(length) = tools::read_file(rt, 2, &mut book) else {
-        return Ok(());
-    };
-    let mut answers = [0; tools::ANSWERS];
-    let Input::Holds(count) = tools::read_answers(rt, 3, &mut answers) else {
-        return Ok(());
-    };
-    print(
-        rt,
-        plate,
-        front(&book, length),
-        tools::first_answers(&answers, count),
-    )
-}
 
 fn main(rt: HostRuntime) -> io::Result<()> {
     if tools::argument_count(&rt, 3) < 3 {
@@ -64,8 +14,11 @@ fn main(rt: HostRuntime) -> io::Result<()> {
         );
     }
     let mut plate = [0; tools::PLATE];
-    let Input::Holds(length) = tools::read_plate(&rt, 1, &mut plate) else {
+    let Some(size) = tools::read_plate(&rt, 1, &mut plate) else {
         return Ok(());
     };
-    run_on(&rt, front(&plate, length))
+    tools::with_answers(&rt, Counted::Bits, |book, answers, transcript| {
+        let mut scratch = [0; run::SCRATCH_NUMBERS];
+        run::run(&plate[..size], book, answers, &mut scratch, transcript)
+    })
 }

@@ -19,11 +19,9 @@ pub fn put_labelled(out: &mut [u8], at: usize, label: &[u8], v: usize) -> usize
 pub fn put_refused(out: &mut [u8], at: usize, r: Refusal) -> usize
     ensures { (result, out.new) ≡ poured at (refused_line r.cause r.place) out.old }
 {
-    let cause = r.cause;
-    let place = r.place;
-    let number = causes::number_of(cause);
+    let number = u32::from(r.cause);
     let end = put_labelled(out, at, b"refused,", number as usize);
-    let end = put_labelled(out, end, b",", place);
+    let end = put_labelled(out, end, b",", r.place);
     text_out::put_byte(out, end, b'\n')
 }
 
@@ -40,14 +38,11 @@ pub fn put_plate(out: &mut [u8], at: usize, plate: &[u8]) -> usize
 pub fn put_report(out: &mut [u8], at: usize, r: Report) -> usize
     ensures { (result, out.new) ≡ poured at (report_line r.outcome r.taken r.steps) out.old }
 {
-    let outcome = r.outcome;
-    let taken = r.taken;
-    let steps = r.steps;
-    let number = causes::outcome_of(outcome);
-    let wrong = causes::wrong_of(outcome);
+    let number = u32::from(r.outcome);
+    let wrong = r.outcome.wrong();
     let end = put_labelled(out, at, b"outcome,", number as usize);
-    let end = put_labelled(out, end, b",taken,", taken);
-    let end = put_labelled(out, end, b",steps,", steps);
+    let end = put_labelled(out, end, b",taken,", r.taken);
+    let end = put_labelled(out, end, b",steps,", r.steps);
     let end = put_labelled(out, end, b",wrong,", wrong as usize);
     text_out::put_byte(out, end, b'\n')
 }

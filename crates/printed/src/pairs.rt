@@ -8,7 +8,7 @@ fn digit(n: u8) -> u8
     requires { n < 16 }
     ensures { result ≡ hexadecimal n }
 {
-    if n < 10 { 48 + n } else { 55 + n }
+    if n < 10 { b'0' + n } else { b'A' + n - 10 }
 }
 
 // The two digits of a byte, the high one first.
@@ -24,10 +24,8 @@ pub fn put_pairs(out: &mut [u8], at: usize, bytes: &[u8]) -> usize
     ensures { (result, out.new) ≡ poured at (pairs bytes.now) out.old }
 {
     let mut end = at;
-    let mut i = 0;
-    while i < bytes.len() {
-        end = put_pair(out, end, bytes[i]);
-        i += 1;
+    for &b in bytes {
+        end = put_pair(out, end, b);
     }
     end
 }

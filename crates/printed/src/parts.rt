@@ -5,8 +5,5 @@ ghost use Rattle.std.specs.Prelude.{◌≡◌, take};
 pub fn front(s: &[u8], n: usize) -> &[u8]
     ensures { result.now ≡ take n s.now }
 {
-    if n < s.len() {
-        return &s[..n];
-    }
-    s
+    &s[..n.min(s.len())]
 }

@@ -6,23 +6,24 @@ use mathlib.Core.List.{List, [], ◌∷◌, ◌++◌, map, append_assoc}
 use lib.ListN.{length, drop, length-append}
 use borrow.Author.Tests.{le-leb, lt-leb}
 use Rattle.causes.specs.Answers.{made, Answer, wrote, refusing, output, lent}
-use Rattle.causes.specs.declared.Cause.TheVariants.{Book, TooShort}
+use Rattle.causes.specs.declared.Cause.TheVariants.{TooShort}
 use Rattle.causes.specs.declared.Refusal.{Refusal}
 use Rattle.output.specs.Pour.{up_to, poured}
 use Rattle.output.proofs.Pour.{pour-fits, then}
 use Rattle.output.proofs.Poured.{ended, stored}
 use Rattle.text.specs.Parts.{join, comma, LF}
-use Rattle.phrases.specs.declared.Book.TheVariants.{Bad}
+use Rattle.std.specs.Prelude.{Err}
+use Rattle.phrases.specs.Phrases.{Phrases}
 use Rattle.phrases.specs.Book.{book_phrases}
-use Rattle.phrases.specs.Lookup.{book_texts, book_answer, own_texts, phrases_in}
+use Rattle.phrases.specs.Lookup.{book_texts, book_answer, phrases_in}
 use Rattle.phrases.proofs.Answers.{book-is}
 use Rattle.phrases.proofs.BookValid.{book-ok}
 use Rattle.plate.specs.Program.{Program}
 use Rattle.plate.specs.Plate.{plate_program}
 use Rattle.plate.proofs.RoundTrip.{read-written}
 use Rattle.reader.specs.declared.Contents.{Contents}
-use Rattle.reader.specs.declared.PlateRead.{PlateRead}
-use Rattle.reader.specs.declared.PlateRead.TheVariants.{Holds, Refused}
+use Rattle.std.specs.Prelude.{Ok, Err}
+use Rattle.std.specs.Prelude as prelude
 use Rattle.reader.specs.Holding.{instructions_at, program_at, program_read, Stands}
 use Rattle.listing.specs.Listing.{instruction_fields, phrase_fields, program_fields, lines_text, listing_text}
 use Rattle.listing.specs.Calls.{read_listing, read_plate_call}
@@ -43,13 +44,13 @@ listing-lines : (p : Program) → lines_text (map phrase_fields p.own) ++ lines_
 unfolding listing_text program_fields
 listing-lines p = lines-append (map phrase_fields p.own) (map instruction_fields p.instructions)
 
-pub write-listing : (plate book own : List ℕ) (c : Contents) (x : ℕ) (out mid : List ℕ) (y : ℕ × List ℕ)
-    → (x, mid) ≡ poured 0 (lines_text (map phrase_fields (own_texts c.own own))) out
-    → y ≡ poured x (lines_text (map instruction_fields (instructions_at plate (phrases_in book own c.own) c.instructions c.bit))) mid
-    → length out < 9223372036854775808 → y ≡ poured 0 (listing_text (program_at plate book own c)) out
+pub write-listing : (plate : List ℕ) (p : Phrases) (c : Contents) (x : ℕ) (out mid : List ℕ) (y : ℕ × List ℕ)
+    → (x, mid) ≡ poured 0 (lines_text (map phrase_fields p.own)) out
+    → y ≡ poured x (lines_text (map instruction_fields (instructions_at plate p c.instructions c.bit))) mid
+    → length out < 9223372036854775808 → y ≡ poured 0 (listing_text (program_at plate p c)) out
 unfolding program_at
-write-listing plate book own c x out mid y e f h =
-    then 0 _ _ out x mid y e f h ∙ ap (λ (b : List ℕ). poured 0 b out) (listing-lines (program_at plate book own c))
+write-listing plate p c x out mid y e f h =
+    then 0 _ _ out x mid y e f h ∙ ap (λ (b : List ℕ). poured 0 b out) (listing-lines (program_at plate p c))
 
 -- ---- what is written, from the pass on no buffer and from the pass on the lent one
 
@@ -66,41 +67,41 @@ module _ (new : List ℕ) (n : ℕ) (x b : List ℕ) (h : (n, x) ≡ poured 0 ne
       rw (le-leb (length new) (length out) (omega arith)) (λ i. (wrote (size i), bytes i))
 
 -- a buffer with room for every line needs no first pass
-pub straight : (plate index book own : List ℕ) (c : Contents) → Stands plate index book own c
-    → length (lines_text (map instruction_fields (program_at plate book own c).instructions)) ≤ lines_room (program_at plate book own c).instructions
-    → (x : ℕ) (b mid : List ℕ) → (x, mid) ≡ poured 0 (lines_text (map phrase_fields (own_texts c.own own))) b
-    → (most : ℕ) → most ≡ up_to (x + c.room) → (n : ℕ) (o out : List ℕ) → (n, o) ≡ poured 0 (listing_text (program_at plate book own c)) out
-    → most ≤ length out → length out < 9223372036854775808 → (wrote n, o) ≡ lent (made (output (listing_text (program_at plate book own c)))) out
+pub straight : (plate : List ℕ) (p : Phrases) (c : Contents) → Stands plate p c
+    → length (lines_text (map instruction_fields (program_at plate p c).instructions)) ≤ lines_room (program_at plate p c).instructions
+    → (x : ℕ) (b mid : List ℕ) → (x, mid) ≡ poured 0 (lines_text (map phrase_fields p.own)) b
+    → (most : ℕ) → most ≡ up_to (x + c.room) → (n : ℕ) (o out : List ℕ) → (n, o) ≡ poured 0 (listing_text (program_at plate p c)) out
+    → most ≤ length out → length out < 9223372036854775808 → (wrote n, o) ≡ lent (made (output (listing_text (program_at plate p c)))) out
 unfolding program_at
-straight plate index book own c s room x b mid e most m n o out k h f =
-    let new = listing_text (program_at plate book own c) in
-    let size = simp length-append at (ap length (listing-lines (program_at plate book own c))) in
+straight plate p c s room x b mid e most m n o out k h f =
+    let new = listing_text (program_at plate p c) in
+    let size = simp length-append at (ap length (listing-lines (program_at plate p c))) in
     whole new n o out k n o out k (omega (arith, ended 0 new out n o k, ended 0 _ b x mid e, s.counted, size)) f
 
 -- ---- the book and the plate
 
 -- the instructions of an accepted plate have the room that is counted for their lines
-pub instructions-fit : (plate book : List ℕ) → book_phrases book ≡ made (book_texts book) → (own : List ℕ) (f : PlateRead)
-    → program_read plate book own f ≡ plate_program (book_texts book) plate → (c : Contents) → f ≡ Holds c → Bytes plate
-    → length (lines_text (map instruction_fields (program_at plate book own c).instructions)) ≤ lines_room (program_at plate book own c).instructions
+pub instructions-fit : (plate book : List ℕ) → book_phrases book ≡ made (book_texts book) → (own : List ℕ) (f : prelude.Result Contents Refusal)
+    → program_read plate book own f ≡ plate_program (book_texts book) plate → (c : Contents) → f ≡ Ok c → Bytes plate
+    → length (lines_text (map instruction_fields (program_at plate (phrases_in book own c.own) c).instructions)) ≤ lines_room (program_at plate (phrases_in book own c.own) c).instructions
 instructions-fit plate book e own f k c h bytes =
     let read = sym k ∙ ap (program_read plate book own) h in
-    let ok = (read-written (book_texts book) plate (program_at plate book own c) bytes (book-ok book (book_texts book) e).0 read).0 in
-    lines-room (program_at plate book own c).instructions ok.room ok.instructions
+    let ok = (read-written (book_texts book) plate (program_at plate (phrases_in book own c.own) c) bytes (book-ok book (book_texts book) e).0 read).0 in
+    lines-room (program_at plate (phrases_in book own c.own) c).instructions ok.room ok.instructions
 
 -- what the call leaves
 module _ (plate book out : List ℕ) where
-  pub call-book : (line : ℕ) → book_answer (book_phrases book) ≡ Bad line → (refusing Book line, out) ≡ read_plate_call plate book out
+  pub call-book : (r : Refusal) → book_answer (book_phrases book) ≡ Err r → (refusing r.cause r.place, out) ≡ read_plate_call plate book out
   unfolding read_plate_call read_listing
-  call-book line e = rw (book-is book e)
+  call-book r e = rw (book-is book e)
 
-  module _ (e : book_phrases book ≡ made (book_texts book)) (own : List ℕ) (f : PlateRead)
+  module _ (e : book_phrases book ≡ made (book_texts book)) (own : List ℕ) (f : prelude.Result Contents Refusal)
       (k : program_read plate book own f ≡ plate_program (book_texts book) plate) where
-    pub call-plate : (r : Refusal) → f ≡ Refused r → (refusing r.cause r.place, out) ≡ read_plate_call plate book out
+    pub call-plate : (r : Refusal) → f ≡ Err r → (refusing r.cause r.place, out) ≡ read_plate_call plate book out
     unfolding read_plate_call read_listing
     call-plate r h = rw (e, ← k, h)
 
-    pub call-listing : (c : Contents) (y : Answer × List ℕ) → f ≡ Holds c
-        → y ≡ lent (made (output (listing_text (program_at plate book own c)))) out → y ≡ read_plate_call plate book out
+    pub call-listing : (c : Contents) (y : Answer × List ℕ) → f ≡ Ok c
+        → y ≡ lent (made (output (listing_text (program_at plate (phrases_in book own c.own) c)))) out → y ≡ read_plate_call plate book out
     unfolding read_plate_call read_listing
     call-listing c y h w = rw (e, ← k, h) w

@@ -19,30 +19,30 @@ ghost use Rattle.phrases.specs.Index.{CheckedBook};
 ghost use Rattle.reader.specs.Own.{OwnRoom, own_lines, own_stored};
 ghost use Rattle.listing.specs.Calls.{read_plate_call};
 
-use causes::{Cause, Refusal, Written};
-use phrases::{Book, EMPTY_INDEX_NUMBERS, INDEX_NUMBERS};
-use reader::{OWN_BYTES, PlateRead};
+use causes::Written;
+use phrase_lookup::Lookup;
+use phrases::{EMPTY_INDEX_NUMBERS, INDEX_NUMBERS};
+use reader::OWN_BYTES;
 
 // The listing with a book that is checked and room for the plate's own phrases, if it has some.
-fn read_own<'a>(
+fn read_own(
     plate: &[u8],
-    index: &'a mut [u32],
-    book: &'a [u8],
-    own: &'a mut [u8],
+    index: &mut [u32],
+    book: &[u8],
+    own: &mut [u8],
     listing: &mut [u8],
 ) -> Written
     requires { CheckedBook most_own index.old book.now × OwnRoom plate.now own.old }
     ensures listing_after { (written_answer result, listing.new) ≡ read_plate_call plate.now book.now listing.old }
     ensures own_after { own.new ≡ pour 0 (own_lines (own_stored (book_texts book.now) plate.now)) own.old }
 {
-    match reader::read_contents(plate, index, book, own) {
-        PlateRead::Refused(r) => Written::Refused(r),
-        PlateRead::Holds(contents) => passes::write(plate, index, book, own, contents, listing),
-    }
+    let contents = reader::read_contents(plate, index, book, own)?;
+    let known = Lookup::new(index, book, own, contents.own);
+    passes::write(plate, &known, contents, listing)
 }
 
 // The listing with a book that is checked. Only a plate with own phrases is given room for them.
-fn read_with<'a>(plate: &[u8], index: &'a mut [u32], book: &'a [u8], listing: &mut [u8]) -> Written
+fn read_with(plate: &[u8], index: &mut [u32], book: &[u8], listing: &mut [u8]) -> Written
     requires { CheckedBook most_own index.old book.now }
     ensures { (written_answer result, listing.new) ≡ read_plate_call plate.now book.now listing.old }
 {
@@ -57,16 +57,11 @@ fn read_with<'a>(plate: &[u8], index: &'a mut [u32], book: &'a [u8], listing: &m
 pub fn read_plate(plate: &[u8], book: &[u8], listing: &mut [u8]) -> Written
     ensures { (written_answer result, listing.new) ≡ read_plate_call plate.now book.now listing.old }
 {
-    if book.len() == 0 {
+    if book.is_empty() {
         let mut index = [0u32; EMPTY_INDEX_NUMBERS];
         return read_with(plate, &mut index, book, listing);
     }
     let mut index = [0u32; INDEX_NUMBERS];
-    match phrase_check::check_book(book, &mut index) {
-        Book::Bad(line) => Written::Refused(Refusal {
-            cause: Cause::Book,
-            place: line,
-        }),
-        Book::Holds(_) => read_with(plate, &mut index, book, listing),
-    }
+    phrase_check::check_book(book, &mut index)?;
+    read_with(plate, &mut index, book, listing)
 }

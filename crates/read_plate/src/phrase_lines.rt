@@ -1,9 +1,10 @@
 // The lines of the own phrases, each written at the front of the listing's unwritten tail.
 ghost use Rattle.std.specs.Prelude.{◌≡◌, [], ◌∷◌, map};
 ghost use Rattle.output.specs.Pour.{poured};
-ghost use Rattle.phrases.specs.Lookup.{own_texts};
-ghost use Rattle.phrases.specs.Own.{Listed};
 ghost use Rattle.listing.specs.Listing.{phrase_fields, lines_text};
+
+use phrase_lookup::Lookup;
+use phrases::Found;
 
 // `phrase,TEXT`, at the front of the tail.
 fn put_phrase(text: &[u8], tail: &mut [u8]) -> usize
@@ -23,27 +24,13 @@ fn phrase_at(text: &[u8], out: &mut [u8], at: usize) -> usize
     output::sum(at, n)
 }
 
-// The lines of all own phrases, `count` of them.
-pub fn put_phrases<'a>(
-    index: &'a [u32],
-    book: &'a [u8],
-    own: &'a [u8],
-    count: usize,
-    out: &mut [u8],
-    at: usize,
-) -> usize
-    requires { Listed index.now book.now own.now count }
-    ensures { (result, out.new) ≡ poured at (lines_text (map phrase_fields (own_texts count own.now))) out.old }
+// The lines of all own phrases.
+pub fn put_phrases(known: &Lookup, out: &mut [u8], at: usize) -> usize
+    ensures { (result, out.new) ≡ poured at (lines_text (map phrase_fields known.now.own)) out.old }
 {
     let mut end = at;
-    let mut n = 0;
-    while n < count {
-        end = phrase_at(
-            phrase_lookup::phrase_text(index, book, own, true, n),
-            out,
-            end,
-        );
-        n += 1;
+    for k in 0..known.own_count() {
+        end = phrase_at(known.text(Found::InOwn(k)), out, end);
     }
     end
 }

@@ -11,7 +11,7 @@ use lib.Dec.{eqb}
 use borrow.Author.Tests.{lt-ltb, le-ltb, ne_eqb}
 use Rattle.bits.specs.Bits.{value_of, bytes_bits}
 use Rattle.bits.specs.Number.{number_in}
-use Rattle.bits.specs.declared.Number.TheVariants.{Is, Ends}
+use Rattle.std.specs.Prelude.{Option, Some, None, MatchOption}
 use Rattle.bits.proofs.Bytes.{length-bytes_bits}
 use Rattle.bits.proofs.Reading.{number_is, number-ends}
 use Rattle.plate.specs.Plate.{zeros}
@@ -37,26 +37,24 @@ module _ (plate : List ℕ) (at : ℕ) where
   unfolding place_at
   left-length = length-drop at (bytes_bits plate) ∙ ap (λ n. n - at) (length-bytes_bits plate)
 
-  none_left : (bs : List Bool) → length bs ≡ 0 → is_filling bs ≡ true
-  unfolding zeros
-  none_left [] h = refl
-  none_left (b ∷ bs) h = absurd (omega arith)
-
-  pub filling-none : length plate * 8 ≤ at → true ≡ is_filling left
-  filling-none h = sym (none_left left (omega (arith, left-length)))
-
   pub filling-byte : 8 ≤ length plate * 8 - at → false ≡ is_filling left
   filling-byte h = let l : 8 ≤ length left = omega (arith, left-length) in rw (le-ltb (length left) 8 l)
 
   module _ (n : ℕ) (all : n ≡ length plate * 8 - at) where
-    pub filling-there : number_in n (drop at (bytes_bits plate)) ≡ Ends → ⊥
+    pub filling-there : number_in n (drop at (bytes_bits plate)) ≡ None → ⊥
     unfolding place_at
     filling-there e = omega (arith, number-ends n (drop at (bytes_bits plate)) e, left-length)
 
-    pub filling-value : (v : ℕ) → n < 8 → number_in n (drop at (bytes_bits plate)) ≡ Is v → eqb v 0 ≡ is_filling left
+    pub filling-value : (v : ℕ) → n < 8 → number_in n (drop at (bytes_bits plate)) ≡ Some v → eqb v 0 ≡ is_filling left
     unfolding place_at
     filling-value v few e =
         let short : length left < 8 = omega (arith, left-length) in
         let whole : v ≡ value_of left =
         number_is n (drop at (bytes_bits plate)) v e ∙ ap value_of (take_all n left (omega (arith, left-length))) in
         rw (lt-ltb (length left) 8 short) (ap (λ k. eqb k 0) whole ∙ sym (zeros-value left))
+
+    -- by what is read of them
+    pub filling-tested : n < 8 → (r : Option ℕ) → r ≡ number_in n (drop at (bytes_bits plate)) → {b : Bool}
+        → MatchOption r (b ≡ false) (λ v. b ≡ eqb v 0) → b ≡ is_filling left
+    filling-tested few None e m = absurd (filling-there (sym e))
+    filling-tested few (Some v) e m = m ∙ filling-value v few (sym e)

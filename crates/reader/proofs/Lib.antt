@@ -5,6 +5,6 @@ pub mod OwnLines
 pub mod OwnSoFar
 pub mod OwnPlaces
 pub mod OwnEntered
-pub mod OwnAnswers
 pub mod FillingBits
 pub mod WholePlate
+pub mod Standing

@@ -54,7 +54,7 @@ module _ {plate book : List ℕ} {at count : ℕ} {old own first index : List �
       omega (arith, ended 0 (own_lines r.texts) old end own r.written, lines-length r.texts r.good, r.number)
 
   -- the phrases so far, by their numbers
-  pub entered-numbers : OwnNumbers index book own k
+  entered-numbers : OwnNumbers index book own k
   entered-numbers =
       let r = s.read in
       let ts = r.texts in
@@ -72,6 +72,9 @@ pub record Line (own : List ℕ) (at end : ℕ) : Type 0 where
   pub inside : end ≤ length own
   pub few : length text ≤ 64
   pub part : take (end - 1 - (at + 7)) (drop (at + 7) own) ≡ text
+
+pub line-few : {own : List ℕ} {at end : ℕ} → Line own at end → length (take (end - 1 - (at + 7)) (drop (at + 7) own)) ≤ 64
+line-few m = omega (arith, ap length m.part, m.few)
 
 -- one more line is written
 module _ {plate book : List ℕ} {at count : ℕ} {old own first index : List ℕ} {bit end k : ℕ}

@@ -1,12 +1,16 @@
 -- The first bit of a plate, which says whether it has own phrases.
 use Prim.Native.Nat.{ℕ, ◌*◌, ◌/◌, ◌%◌, ◌≤◌, ◌<◌}
-use mathlib.Core.Path.{◌≡◌, refl, sym, ◌∙◌}
+use mathlib.Core.Path.{◌≡◌, refl, sym, ap, ◌∙◌}
 use mathlib.Core.List.{List, [], ◌∷◌}
 use mathlib.Core.Bool.{Bool, true, false}
 use native.Mathlib.Omega.{arith}
 use lib.ListN.{length, get_or}
 use lib.Dec.{leb, eqb}
 use borrow.Author.Tests.{leb-true, leb-false, eq-eqb, ne_eqb, le-leb}
+use denote.Bor.{Bor}
+use Rattle.std.specs.Prelude.{Option, Some, None, MatchOption, slice_get}
+use Rattle.std.specs.Option.{option_copied}
+use Rattle.std.proofs.lemmas.Option.{none-some, same_Some}
 use Rattle.bits.specs.Bits.{bits_of, bytes_bits, value_of}
 use Rattle.plate.specs.Reading.{Place, got, number, return, onward, ◌>>=◌}
 use Rattle.plate.specs.Plate.{own_count_by, own_count}
@@ -28,6 +32,14 @@ pub first-none : (plate : List ℕ) → length plate ≡ 0 → false ≡ has_own
 unfolding has_own bytes_bits
 first-none [] h = refl
 first-none (b ∷ bs) h = absurd (omega arith)
+
+-- by what is found of the first byte
+pub first-tested : (plate : List ℕ) → get_or plate 0 0 < 256 → (o : Option (Bor ℕ)) → option_copied o ≡ slice_get plate 0 → {r : Bool}
+    → MatchOption o (r ≡ false) (λ x. r ≡ leb 128 x.now) → r ≡ has_own plate
+first-tested [] small None e m = m ∙ first-none [] refl
+first-tested [] small (Some x) e m = absurd (none-some x.now (sym e))
+first-tested (b ∷ plate) small None e m = absurd (none-some b e)
+first-tested (b ∷ plate) small (Some x) e m = m ∙ ap (leb 128) (same_Some _ _ e) ∙ first_bit (b ∷ plate) small
 
 -- no own phrases behind a bit of 0
 none-counted : (bs : List Bool) {n : ℕ} {q : Place} → get_or bs 0 false ≡ false

@@ -16,7 +16,7 @@ use Rattle.text.proofs.Tests.{all_first, all_rest}
 use Rattle.text.proofs.Bytes.{text-size}
 use Rattle.phrases.specs.Lookup.{book_texts}
 use Rattle.phrases.specs.Own.{own_number, own_text, OwnAt, OwnNumbers}
-use Rattle.phrases.proofs.OwnEntries.{own-text}
+use Rattle.phrases.proofs.OwnEntries.{own-there, own-text}
 use Rattle.reader.specs.Own.{phrase_line, own_lines}
 use Rattle.reader.proofs.OwnLines.{line-length, lines-texts}
 
@@ -123,12 +123,5 @@ numbers-are index book ts rest ok few room n = record { whole = ap length (lines
         let own = own_lines ts ++ rest in
         let is : get_or ts k [] ≡ own_text own k = sym (ap (λ us. get_or us k []) (lines-texts ts rest ok)) ∙ own-text (length ts) own k h in
         let size : length (get_or ts k []) < 128 = omega (arith, (text-size (get_or ts k []) (text-good ts k ok h)).1) in
-        record {
-          room = omega arith;
-          at = start_of ts k;
-          near = omega (arith, start-near ts k ok);
-          short = rw is at size;
-          inside = rw is at (text-inside ts k rest h);
-          stands = rw is at (text-stands ts k rest h);
-          number = rw is at (n.each k h);
-        }
+        own-there index book own k (start_of ts k) (omega arith) (omega (arith, start-near ts k ok)) (rw is at size) (rw is at (text-inside ts k rest h))
+        (rw is at (text-stands ts k rest h)) (rw is at (n.each k h))

@@ -15,8 +15,8 @@ use Rattle.text.specs.Text.{Text, is_text}
 use Rattle.text.proofs.Valid.{TextsOk}
 use Rattle.text.proofs.Tests.{all_append, all_cons}
 use Rattle.phrases.specs.Lookup.{book_texts, own_texts}
-use Rattle.plate.specs.Reading.{Place, got, stopped, return}
-use Rattle.phrases.specs.Phrases.{is_new}
+use Rattle.plate.specs.Reading.{Place, Read, got, stopped, return}
+use Rattle.phrases.specs.Phrases.{Phrases, is_new}
 use Rattle.plate.specs.Plate.{spelled, own_count, own_from}
 use Rattle.plate.proofs.Spelled.{gives-spelled}
 use Rattle.fields.specs.Places.{place_at, until_etx}
@@ -26,6 +26,10 @@ use Rattle.plate_characters.proofs.TextCopy.{got-known}
 use Rattle.plate_texts.proofs.Known.{known-judged}
 use Rattle.reader.specs.Own.{phrase_line, own_lines, when_read, own_until, own_counted, own_stored}
 use Rattle.reader.proofs.OwnLines.{lines_more, lines-texts, lines-length}
+
+-- what was read among the phrases of a lookup
+pub read-among : (q : Place) {m : Read Text} {p r : Phrases} → p ≡ r → m ≡ spelled 7 (is_new p.book p.own) q → m ≡ spelled 7 (is_new r.book r.own) q
+read-among q is e = e ∙ ap (λ (p : Phrases). spelled 7 (is_new p.book p.own) q) is
 
 -- the characters of a phrase that was read
 pub phrase-characters : (plate : List ℕ) (bit : ℕ) (book own : List Text) {t : Text} {q : Place}
@@ -73,9 +77,6 @@ module _ {plate book : List ℕ} {at count : ℕ} {old own : List ℕ} {bit end 
       let lines = own_lines s.texts in
       ap (own_texts k) own-front ∙ ap (λ n. own_texts n (lines ++ drop (length lines) old)) (sym s.number)
       ∙ lines-texts s.texts (drop (length lines) old) s.good
-
-  pub own-there : length (own_texts k own) ≡ k
-  own-there = ap length own-texts ∙ s.number
 
   pub own-ended : k ≡ count → got (own_texts count own) (place_at plate bit) ≡ own_from (book_texts book) [] count (place_at plate at)
   unfolding own_from return

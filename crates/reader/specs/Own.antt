@@ -1,5 +1,6 @@
 -- The own phrases of a plate, as the lines `phrase,TEXT` that the code writes.
-use Rattle.std.specs.Prelude.{ℕ, zero, suc, ◌≤◌, ◌≡◌, List, [], ◌∷◌, ◌++◌, Bool, true, false, cond, length, get_or, leb}
+use Rattle.std.specs.Prelude.{ℕ, zero, suc, ◌≤◌, ◌≡◌, List, [], ◌∷◌, ◌++◌, Bool, true, false, cond, Result, Ok, Err, length, get_or, leb}
+use Rattle.causes.specs.declared.Refusal.{Refusal}
 use Rattle.causes.specs.Limits.{most_plate_bytes}
 use Rattle.bits.specs.Bits.{bytes_bits}
 use Rattle.text.specs.Quoted.{bytes}
@@ -10,8 +11,7 @@ use Rattle.phrases.specs.Own.{Listed}
 use Rattle.plate.specs.Reading.{Place, Read, got, stopped, Reader, ◌>>=◌}
 use Rattle.phrases.specs.Phrases.{is_new}
 use Rattle.plate.specs.Plate.{spelled, own_count, own_from}
-use Rattle.fields.specs.declared.Field as field
-use Rattle.fields.specs.declared.Field.TheVariants as fields
+use Rattle.fields.specs.declared.Field.{Field}
 use Rattle.fields.specs.Places.{place_at}
 
 -- "One bit: 1 if there are own phrases": whether the first bit of a plate is 1
@@ -40,14 +40,14 @@ own_phrases book = do
   own_from book [] n
 
 -- own phrases that the code read, by their number and the lines that it wrote
-abbrev pub own_read : List ℕ → List ℕ → field.Field → Read (List Text)
-own_read plate own (fields.Is n next) = got (own_texts n own) (place_at plate next)
-own_read plate own (fields.Refused r) = stopped r.cause r.place
+abbrev pub own_read : List ℕ → List ℕ → Result (Field ℕ) Refusal → Read (List Text)
+own_read plate own (Ok f) = got (own_texts f.value own) (place_at plate f.next)
+own_read plate own (Err r) = stopped r.cause r.place
 
 -- at most 32, each with its line, and with its number behind the index of the book
-abbrev pub OwnThere : List ℕ → List ℕ → List ℕ → field.Field → Type 0
-OwnThere index book own (fields.Is n next) = Listed index book own n
-OwnThere index book own (fields.Refused r) = Unit
+abbrev pub OwnThere : List ℕ → List ℕ → List ℕ → Result (Field ℕ) Refusal → Type 0
+OwnThere index book own (Ok f) = Listed index book own f.value
+OwnThere index book own (Err r) = Unit
 
 -- the lines of own phrases, one behind the other
 unfoldable pub own_lines : List Text → List ℕ

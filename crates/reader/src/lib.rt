@@ -10,7 +10,6 @@ mod own;
 mod passing;
 mod whole;
 
-use causes::Refusal;
 pub use own::has_own;
 pub use whole::read_contents;
 
@@ -19,17 +18,10 @@ pub const OWN_BYTES: usize = 2304;
 
 // What a plate holds: how many own phrases and instructions, the bit of the first instruction, and the room that the lines of the
 // instructions take at most in a listing.
-#[derive(Clone, Copy)]
+#[derive(Clone, Copy, Debug, PartialEq, Eq)]
 pub struct Contents {
     pub own: usize,
     pub instructions: usize,
     pub bit: usize,
     pub room: usize,
-}
-
-// What reading a whole plate finds: its contents, or a refusal.
-#[derive(Clone, Copy)]
-pub enum PlateRead {
-    Holds(Contents),
-    Refused(Refusal),
 }

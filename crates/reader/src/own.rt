@@ -10,7 +10,9 @@ ghost use Rattle.plate.specs.Plate.{own_count, own_from};
 ghost use Rattle.fields.specs.Places.{place_at, field_read, until_etx, values_of, Known};
 ghost use Rattle.reader.specs.Own.{has_own, OwnRoom, phrase_line, own_phrases, own_read, OwnThere, own_lines, own_until, own_counted, line_bytes};
 
+use causes::Refusal;
 use fields::{Field, read_plain};
+use phrase_lookup::Lookup;
 use plate_characters::copy_each;
 use plate_texts::read_spelled;
 
@@ -18,29 +20,23 @@ use plate_texts::read_spelled;
 pub fn has_own(plate: &[u8]) -> bool
     ensures { result ≡ has_own plate.now }
 {
-    if plate.len() == 0 {
-        return false;
-    }
-    128 <= plate[0]
+    plate.first().is_some_and(|byte| 128 <= *byte)
 }
 
 // How many own phrases there are: a bit, and 5 bits for their number less one.
-fn read_count(plate: &[u8], at: usize) -> Field
+fn read_count(plate: &[u8], at: usize) -> Result<Field<usize>, Refusal>
     requires { length plate.now ≤ most_plate_bytes }
     ensures { field_read plate.now result ≡ own_count (place_at plate.now at) }
 {
-    let first = read_plain(plate, at, 1);
-    let Field::Is(bit, next) = first else {
-        return first;
-    };
+    let Field { value: bit, next } = read_plain(plate, at, 1)?;
     if bit == 0 {
-        return Field::Is(0, next);
+        return Ok(Field { value: 0, next });
     }
-    let second = read_plain(plate, next, 5);
-    let Field::Is(less, end) = second else {
-        return second;
-    };
-    Field::Is(less + 1, end)
+    let Field { value: less, next } = read_plain(plate, next, 5)?;
+    Ok(Field {
+        value: less + 1,
+        next,
+    })
 }
 
 // A line `phrase,TEXT` of the characters from a bit on, up to ETX.
@@ -61,7 +57,7 @@ fn read_phrases(
     index: &mut [u32],
     book: &[u8],
     own: &mut [u8],
-) -> Field
+) -> Result<Field<usize>, Refusal>
     requires { (length plate.now ≤ most_plate_bytes) × Indexed index.old book.now × (with_own + length (book_texts book.now) ≤ length index.old) × (count ≤ most_own) × (line_bytes * count ≤ length own.old) }
     ensures result_after { own_read plate.now own.new result ≡ own_from (book_texts book.now) [] count (place_at plate.now at) }
     ensures own_there { OwnThere index.new book.now own.new result }
@@ -70,32 +66,32 @@ fn read_phrases(
 {
     let mut bit = at;
     let mut end = 0;
-    let mut k = 0;
-    while k < count {
-        let field = read_spelled(plate, bit, index, book, own, k);
-        let Field::Is(_, next) = field else {
-            return field;
-        };
+    for k in 0..count {
+        let text = read_spelled(plate, bit, &Lookup::new(index, book, own, k))?;
         let start = end + 7;
         end = put_phrase(plate, bit, own, end);
         phrase_lookup::enter_own(index, k, start, &own[start..end - 1]);
-        bit = next;
-        k += 1;
+        bit = text.next;
     }
-    Field::Is(count, bit)
+    Ok(Field {
+        value: count,
+        next: bit,
+    })
 }
 
 // The own phrases of a plate, as lines at the front of `own`: those that are read before the first refusal. Nothing else changes there.
-pub fn read_own(plate: &[u8], index: &mut [u32], book: &[u8], own: &mut [u8]) -> Field
+pub fn read_own(
+    plate: &[u8],
+    index: &mut [u32],
+    book: &[u8],
+    own: &mut [u8],
+) -> Result<Field<usize>, Refusal>
     requires { (length plate.now ≤ most_plate_bytes) × Indexed index.old book.now × (with_own + length (book_texts book.now) ≤ length index.old) × OwnRoom plate.now own.old }
     ensures result_after { own_read plate.now own.new result ≡ own_phrases (book_texts book.now) (place_at plate.now 0) }
     ensures own_there { OwnThere index.new book.now own.new result }
     ensures own_after { own.new ≡ pour 0 (own_lines (own_counted (book_texts book.now) (own_count (place_at plate.now 0)))) own.old }
     ensures own_kept { OwnKept book.now index.old index.new }
 {
-    let field = read_count(plate, 0);
-    let Field::Is(count, next) = field else {
-        return field;
-    };
+    let Field { value: count, next } = read_count(plate, 0)?;
     read_phrases(plate, next, count, index, book, own)
 }

@@ -1,85 +1,78 @@
 // A whole plate: the own phrases, the instruction count, the instructions and the filling.
 ghost use Rattle.std.specs.Prelude.{◌≡◌, ◌+◌, ◌≤◌, length};
+ghost use Rattle.causes.specs.Limits.{most_plate_bytes};
 ghost use Rattle.output.specs.Pour.{pour};
 ghost use Rattle.phrases.specs.Lookup.{book_texts, phrases_in};
 ghost use Rattle.phrases.specs.Index.{Indexed, with_own};
-ghost use Rattle.phrases.specs.Own.{OwnKept};
+ghost use Rattle.phrases.specs.Own.{Listed, OwnKept};
 ghost use Rattle.plate.specs.Plate.{result_of, plate_program};
 ghost use Rattle.fields.specs.Places.{place_at};
-ghost use Rattle.plate_texts.specs.TextsAt.{Lent};
 ghost use Rattle.reader.specs.declared.Contents as contents;
-ghost use Rattle.reader.specs.declared.PlateRead.TheVariants as plates;
-ghost use Rattle.reader.specs.Holding.{program_read, Stands};
+ghost use Rattle.reader.specs.Holding.{program_read, rest_read, Stands};
 ghost use Rattle.reader.specs.Own.{OwnRoom, own_lines, own_stored};
 ghost use Rattle.reader.specs.Whole.{rest_of};
 
+use crate::Contents;
 use crate::filling::is_filled;
 use crate::own::read_own;
 use crate::passing::pass_instructions;
-use crate::{Contents, PlateRead};
 use causes::limits::{INSTRUCTIONS, PLATE_BYTES};
 use causes::{Cause, Refusal};
 use fields::{Field, read_field};
+use phrase_lookup::Lookup;
 
 // What follows the own phrases: the instruction count, the instructions and the filling.
-fn read_rest<'a>(
-    plate: &[u8],
-    at: usize,
-    index: &'a [u32],
-    book: &'a [u8],
-    own: &'a [u8],
-    count: usize,
-) -> PlateRead
-    requires { Lent plate.now index.now book.now own.now count }
-    ensures result_value { program_read plate.now book.now own.now result ≡ result_of (rest_of (phrases_in book.now own.now count) (place_at plate.now at)) }
-    ensures stands { (c : contents.Contents) → result ≡ plates.Holds c → Stands plate.now index.now book.now own.now c }
+fn read_rest(plate: &[u8], at: usize, known: &Lookup) -> Result<Contents, Refusal>
+    requires { length plate.now ≤ most_plate_bytes }
+    ensures result_value { rest_read plate.now known.now result ≡ result_of (rest_of known.now (place_at plate.now at)) }
+    ensures own_value { (c : contents.Contents) → result ≡ Ok c → c.own ≡ length known.now.own }
+    ensures stands { (c : contents.Contents) → result ≡ Ok c → Stands plate.now known.now c }
 {
-    let first = read_field(plate, at, 10, INSTRUCTIONS, Cause::Unused);
-    let Field::Is(instructions, bit) = first else {
-        return PlateRead::Refused(first.refusal());
-    };
-    let second = pass_instructions(plate, bit, instructions, index, book, own, count);
-    let Field::Is(room, end) = second else {
-        return PlateRead::Refused(second.refusal());
-    };
+    let Field {
+        value: instructions,
+        next: bit,
+    } = read_field(plate, at, 10, INSTRUCTIONS, Cause::Unused)?;
+    let Field {
+        value: room,
+        next: end,
+    } = pass_instructions(plate, bit, instructions, known)?;
     if is_filled(plate, end) {
-        return PlateRead::Holds(Contents {
-            own: count,
+        Ok(Contents {
+            own: known.own_count(),
             instructions,
             bit,
             room,
-        });
+        })
+    } else {
+        Err(Refusal {
+            cause: Cause::Filling,
+            place: end,
+        })
     }
-    PlateRead::Refused(Refusal {
-        cause: Cause::Filling,
-        place: end,
-    })
 }
 
 // What a plate holds. Its own phrases, or those that are read before the reading stops, are the first lines of `own` afterwards; nothing
 // else changes there. `own` has room for 32 lines of 72 bytes, if the plate has own phrases. Their numbers stand behind the index of the
 // book afterwards.
-pub fn read_contents<'a>(
+pub fn read_contents(
     plate: &[u8],
-    index: &'a mut [u32],
-    book: &'a [u8],
-    own: &'a mut [u8],
-) -> PlateRead
+    index: &mut [u32],
+    book: &[u8],
+    own: &mut [u8],
+) -> Result<Contents, Refusal>
     requires { Indexed index.old book.now × (with_own + length (book_texts book.now) ≤ length index.old) × OwnRoom plate.now own.old }
     ensures result_after { program_read plate.now book.now own.new result ≡ plate_program (book_texts book.now) plate.now }
-    ensures stands { (c : contents.Contents) → result ≡ plates.Holds c → Stands plate.now index.new book.now own.new c }
+    ensures listed { (c : contents.Contents) → result ≡ Ok c → Listed index.new book.now own.new c.own }
+    ensures stands { (c : contents.Contents) → result ≡ Ok c → Stands plate.now (phrases_in book.now own.new c.own) c }
     ensures own_after { own.new ≡ pour 0 (own_lines (own_stored (book_texts book.now) plate.now)) own.old }
     ensures own_kept { OwnKept book.now index.old index.new }
 {
     if PLATE_BYTES < plate.len() {
-        return PlateRead::Refused(Refusal {
+        return Err(Refusal {
             cause: Cause::PlateTooLong,
             place: 0,
         });
     }
-    let first = read_own(plate, index, book, own);
-    let Field::Is(count, at) = first else {
-        return PlateRead::Refused(first.refusal());
-    };
-    read_rest(plate, at, index, book, own, count)
+    let Field { value: count, next } = read_own(plate, index, book, own)?;
+    read_rest(plate, next, &Lookup::new(index, book, own, count))
 }

@@ -12,14 +12,14 @@ use causes::{Cause, Refusal};
 use text_out::put;
 
 // What a place counts: the lines of a guide or listing, or the bits of a plate.
-#[derive(Clone, Copy)]
+#[derive(Clone, Copy, Debug, PartialEq, Eq)]
 pub enum Counted {
     Lines,
     Bits,
 }
 
 // What the place of a refusal is.
-#[derive(Clone, Copy)]
+#[derive(Clone, Copy, Debug, PartialEq, Eq)]
 pub enum Place {
     Nowhere,
     BookLine,
@@ -33,23 +33,14 @@ fn place_of(counted: Counted, cause: Cause) -> Place
 {
     match cause {
         Cause::Book => Place::BookLine,
-        Cause::TooLong => Place::Nowhere,
-        Cause::Byte => Place::Line,
-        Cause::Kind => Place::Line,
-        Cause::Value => Place::Line,
-        Cause::Phrase => Place::Line,
-        Cause::Nesting => Place::Line,
+        Cause::TooLong | Cause::PlateTooLong | Cause::TooShort => Place::Nowhere,
+        Cause::Byte | Cause::Kind | Cause::Value => Place::Line,
+        Cause::Phrase | Cause::Nesting | Cause::Instructions => Place::Line,
         Cause::Skip => match counted {
             Counted::Lines => Place::Line,
             Counted::Bits => Place::Bit,
         },
-        Cause::Instructions => Place::Line,
-        Cause::PlateTooLong => Place::Nowhere,
-        Cause::TooShort => Place::Nowhere,
-        Cause::PlateEnds => Place::Bit,
-        Cause::Unused => Place::Bit,
-        Cause::Spelling => Place::Bit,
-        Cause::Filling => Place::Bit,
+        Cause::PlateEnds | Cause::Unused | Cause::Spelling | Cause::Filling => Place::Bit,
     }
 }
 
@@ -74,37 +65,35 @@ fn put_place(out: &mut [u8], at: usize, place: Place, n: usize) -> usize
     }
 }
 
-// What the cause is: the lines of the table are numbered from 0, and line 0 is empty.
-fn put_cause(out: &mut [u8], at: usize, cause: Cause) -> usize
-    ensures { (result, out.new) ≡ poured at (cause_words cause) out.old }
+// What the cause is.
+fn cause_words(cause: Cause) -> &'static [u8]
+    ensures { result.now ≡ cause_words cause }
 {
-    let table = b"\n\
-        over 256 phrases, a bad or repeated text, or no last LF\n\
-        guide over 16,384 bytes, or listing over 327,680\n\
-        byte not allowed, or last line without LF\n\
-        unknown kind or wrong count of fields\n\
-        field value outside its rule\n\
-        phrase in a guide, late, 33rd, or repeated\n\
-        else or fi without its if, second else, 17th level, or if left open\n\
-        skip past the last instruction\n\
-        513th instruction\n\
-        plate over 2,953 bytes\n\
-        output shorter than the result, or scratch too short\n\
-        plate ends inside a field\n\
-        unused code, over 512 instructions, or phrase that isn't there\n\
-        character not allowed, text of 0 or over 64, phrase spelled out or repeated, or 32 bits for a 16-bit constant\n\
-        a one among the filling bits, or a whole spare byte";
-    let number = causes::number_of(cause) as usize;
-    put(out, at, text_parts::part(table, b'\n', number))
+    match cause {
+        Cause::Book => b"over 256 phrases, a bad or repeated text, or no last LF",
+        Cause::TooLong => b"guide over 16,384 bytes, or listing over 327,680",
+        Cause::Byte => b"byte not allowed, or last line without LF",
+        Cause::Kind => b"unknown kind or wrong count of fields",
+        Cause::Value => b"field value outside its rule",
+        Cause::Phrase => b"phrase in a guide, late, 33rd, or repeated",
+        Cause::Nesting => b"else or fi without its if, second else, 17th level, or if left open",
+        Cause::Skip => b"skip past the last instruction",
+        Cause::Instructions => b"513th instruction",
+        Cause::PlateTooLong => b"plate over 2,953 bytes",
+        Cause::TooShort => b"output shorter than the result, or scratch too short",
+        Cause::PlateEnds => b"plate ends inside a field",
+        Cause::Unused => b"unused code, over 512 instructions, or phrase that isn't there",
+        Cause::Spelling =>
+            b"character not allowed, text of 0 or over 64, phrase spelled out or repeated, or 32 bits for a 16-bit constant",
+        Cause::Filling => b"a one among the filling bits, or a whole spare byte",
+    }
 }
 
 // The line of words for a refusal.
 pub fn put_words(out: &mut [u8], at: usize, counted: Counted, r: Refusal) -> usize
     ensures { (result, out.new) ≡ poured at (words_line counted r.cause r.place) out.old }
 {
-    let cause = r.cause;
-    let n = r.place;
-    let end = put_place(out, at, place_of(counted, cause), n);
-    let end = put_cause(out, end, cause);
+    let end = put_place(out, at, place_of(counted, r.cause), r.place);
+    let end = put(out, end, cause_words(r.cause));
     text_out::put_byte(out, end, b'\n')
 }

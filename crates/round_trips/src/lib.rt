@@ -15,10 +15,8 @@ pub fn write_and_read(listing: &[u8], book: &[u8], plate: &mut [u8], again: &mut
     ensures again_after { (written_answer result, again.new) ≡ write_then_read listing.now book.now plate.old again.old }
     ensures plate_after { plate.new ≡ (write_plate_call listing.now book.now plate.old).1 }
 {
-    match write_plate::write_plate(listing, book, plate) {
-        Written::Refused(r) => Written::Refused(r),
-        Written::Done(length) => read_plate::read_plate(&plate[..length], book, again),
-    }
+    let length = write_plate::write_plate(listing, book, plate)?;
+    read_plate::read_plate(&plate[..length], book, again)
 }
 
 // A plate is read as a listing into one buffer, and the bytes written are made a plate again in the other.
@@ -26,8 +24,6 @@ pub fn read_and_write(plate: &[u8], book: &[u8], listing: &mut [u8], again: &mut
     ensures again_after { (written_answer result, again.new) ≡ read_then_write plate.now book.now listing.old again.old }
     ensures listing_after { listing.new ≡ (read_plate_call plate.now book.now listing.old).1 }
 {
-    match read_plate::read_plate(plate, book, listing) {
-        Written::Refused(r) => Written::Refused(r),
-        Written::Done(length) => write_plate::write_plate(&listing[..length], book, again),
-    }
+    let length = read_plate::read_plate(plate, book, listing)?;
+    write_plate::write_plate(&listing[..length], book, again)
 }

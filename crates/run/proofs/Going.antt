@@ -6,7 +6,7 @@ use lib.ListN.{length}
 use lib.IntN.{ℤ}
 use Rattle.causes.specs.declared.Outcome.{Outcome}
 use Rattle.causes.specs.declared.Outcome.TheVariants.{End}
-use Rattle.phrases.specs.Lookup.{phrases_in}
+use Rattle.phrases.specs.Phrases.{Phrases}
 use Rattle.transcript.specs.declared.Machine.{Machine}
 use Rattle.transcript.specs.declared.Performed.{Performed}
 use Rattle.transcript.specs.State.{State, start}
@@ -25,7 +25,7 @@ use Rattle.reader.specs.Holding.{instructions_at, program_at}
 use Rattle.running.specs.Run.{run}
 use Rattle.running.proofs.Natural.{run-natural}
 use Rattle.run_steps.specs.Meets.{left_by, over_by}
-use Rattle.run.specs.Accepted.{instructions_from, Continues}
+use Rattle.run.specs.Accepted.{Continues}
 use Rattle.run.proofs.Nexts.{next-read, next-there, none_left}
 use Rattle.run_steps.proofs.Meeting.{run-first}
 
@@ -51,50 +51,50 @@ module _ (rs answers : List ℤ) (p : Performed) (o : List ℕ) (at over : ℕ) 
 
 -- ---- the instructions, one by one
 
-module _ (plate book own : List ℕ) (count : ℕ) where
+module _ (plate : List ℕ) (ps : Phrases) where
   -- the first instruction, with so many left
   abbrev first_of : ℕ → ℕ → Read Instruction
-  first_of left bit = reader.instruction (phrases_in book own count) (left - 1) (place_at plate bit)
+  first_of left bit = reader.instruction ps (left - 1) (place_at plate bit)
 
   -- the first of them, and the others
   pub record Following (left bit next : ℕ) : Type 0 where
-    pub split : instructions_from plate book own count left bit
-        ≡ instruction_of (first_of left bit) ∷ instructions_from plate book own count (left - 1) next
-    pub others : Continues plate book own count (left - 1) next
+    pub split : instructions_at plate ps left bit
+        ≡ instruction_of (first_of left bit) ∷ instructions_at plate ps (left - 1) next
+    pub others : Continues plate ps (left - 1) next
 
-  module _ (left bit : ℕ) (t : Continues plate book own count left bit) where
+  module _ (left bit : ℕ) (t : Continues plate ps left bit) where
     -- the first of them is known to be good
     pub instruction-known : 0 < left → Known (first_of left bit)
     unfolding instructions_at
     instruction-known h =
-        record { good = λ e. next-there (reader.instruction (phrases_in book own count)) plate left bit t h e }
+        record { good = λ e. next-there (reader.instruction ps) plate left bit t h e }
 
     -- the others stand behind it
     pub following : (next : ℕ) → 0 < left → got 0 (place_at plate next) ≡ end_with 0 (first_of left bit) → Following left bit next
     unfolding instructions_at
     following next h e =
         let f = ended_some 0 0 (place_at plate next) (first_of left bit) e in
-        let x = next-read (reader.instruction (phrases_in book own count)) plate left bit next t h f.1 in
+        let x = next-read (reader.instruction ps) plate left bit next t h f.1 in
         record {
-          split = x.split ∙ ap (λ i. i ∷ instructions_from plate book own count (left - 1) next) (ap instruction_of f.1);
+          split = x.split ∙ ap (λ i. i ∷ instructions_at plate ps (left - 1) next) (ap instruction_of f.1);
           others = x.others;
         }
 
     -- "the run ends at n"
     pub lay_done : (rs answers : List ℤ) (p : Performed) (over : ℕ) (out : List ℕ) → p.outcome ≡ End → left ≡ 0 → p.end ≤ 18446744073709551615
-        → performed rs answers p out ≡ laid p.end (run (instructions_from plate book own count left bit) over (machine_state rs answers p.machine)) out
+        → performed rs answers p out ≡ laid p.end (run (instructions_at plate ps left bit) over (machine_state rs answers p.machine)) out
     unfolding run instructions_at
     lay_done rs answers p over out e z h =
-        rw (none_left (reader.instruction (phrases_in book own count)) plate left bit t z)
+        rw (none_left (reader.instruction ps) plate left bit t z)
         (lay-here rs answers p.machine p.outcome p.end out h
         ∙ ap (λ (k : Outcome). laid p.end (ending_by k (machine_state rs answers p.machine)) out) e)
 
 -- ---- from the first instruction on
 
-pub lay-program : (plate book own : List ℕ) (c : Contents) (rs answers : List ℤ) (m : Machine) (at : ℕ) (out : List ℕ) (p : Laid)
-    → p ≡ laid at (run (instructions_from plate book own c.own c.instructions c.bit) 0 (machine_state rs answers m)) out
+pub lay-program : (plate : List ℕ) (ps : Phrases) (c : Contents) (rs answers : List ℤ) (m : Machine) (at : ℕ) (out : List ℕ) (p : Laid)
+    → p ≡ laid at (run (instructions_at plate ps c.instructions c.bit) 0 (machine_state rs answers m)) out
     → machine_state rs answers m ≡ start answers
-    → p ≡ laid at (run (program_at plate book own c).instructions 0 (start answers)) out
+    → p ≡ laid at (run (program_at plate ps c).instructions 0 (start answers)) out
 unfolding program_at
-lay-program plate book own c rs answers m at out p h e =
-    h ∙ ap (λ (s : State). laid at (run (instructions_from plate book own c.own c.instructions c.bit) 0 s) out) e
+lay-program plate ps c rs answers m at out p h e =
+    h ∙ ap (λ (s : State). laid at (run (instructions_at plate ps c.instructions c.bit) 0 s) out) e

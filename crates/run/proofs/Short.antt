@@ -26,15 +26,14 @@ use Rattle.machine.proofs.Follow.{lay-bytes}
 use Rattle.machine.proofs.Passes.{whole}
 use Rattle.statements.proofs.Performs.{first_line}
 use Rattle.statements.proofs.Rooms.{state_room, perform-room, perform-once, answers-room}
-use Rattle.phrases.specs.Lookup.{phrases_in}
+use Rattle.phrases.specs.Phrases.{Phrases}
 use Rattle.plate.specs.Program.{Instruction, statement, goto, if_skip}
 use Rattle.plate.specs.Plate.{instruction}
 use Rattle.listing.specs.LineSizes.{line_room, lines_room}
 use Rattle.reader.specs.declared.Contents.{Contents}
-use Rattle.reader.specs.Holding.{instructions_at, program_at}
+use Rattle.reader.specs.Holding.{instructions_at, program_at, Stands}
 use Rattle.reader.proofs.Next.{there-length}
 use Rattle.running.specs.Run.{run}
-use Rattle.run.specs.Accepted.{Accepted}
 
 -- ---- an instruction
 
@@ -119,15 +118,15 @@ none_of (a ∷ rest) e = absurd (omega arith)
 
 -- ---- a plate's run
 
-module _ (plate index book own : List ℕ) (c : Contents) (a : Accepted plate index book own c) (answers : List ℤ) (f : Ranged answers) where
+module _ (plate : List ℕ) (ps : Phrases) (c : Contents) (a : Stands plate ps c) (answers : List ℤ) (f : Ranged answers) where
   abbrev ending : Ending
-  ending = run (program_at plate book own c).instructions 0 (start answers)
+  ending = run (program_at plate ps c).instructions 0 (start answers)
 
-  run_short : length (transcript_bytes (state_of ending).transcript) + 12 * c.instructions ≤ 3 * lines_room (program_at plate book own c).instructions + 14 * length answers
+  run_short : length (transcript_bytes (state_of ending).transcript) + 12 * c.instructions ≤ 3 * lines_room (program_at plate ps c).instructions + 14 * length answers
   unfolding program_at instructions_at start transcript_bytes
   run_short =
-      let n = there-length (instruction (phrases_in book own c.own)) plate a.stands.whole in
-      omega (arith, n, run_room (program_at plate book own c).instructions 0 (start answers), answers-room answers f)
+      let n = there-length (instruction ps) plate a.whole in
+      omega (arith, n, run_room (program_at plate ps c).instructions 0 (start answers), answers-room answers f)
 
   -- a buffer that holds so many bytes needs no first pass: with no answers
   pub straight-once : (rs : List ℤ) (p : Performed) (o out : List ℕ) → performed rs answers p o ≡ laid 0 ending out
@@ -136,10 +135,10 @@ module _ (plate index book own : List ℕ) (c : Contents) (a : Accepted plate in
   unfolding program_at instructions_at start transcript_bytes
   straight-once rs p o out k m h l =
       let new = transcript_bytes (state_of ending).transcript in
-      let n = there-length (instruction (phrases_in book own c.own)) plate a.stands.whole in
-      let once = run-once (program_at plate book own c).instructions 0 (start answers) (none_of answers m) in
+      let n = there-length (instruction ps) plate a.whole in
+      let once = run-once (program_at plate ps c).instructions 0 (start answers) (none_of answers m) in
       whole rs answers ending p o out k rs p o out k
-      (omega (arith, n, once, a.stands.few, a.stands.counted, ended 0 new out p.end o (lay-bytes rs answers p o 0 ending out k))) l
+      (omega (arith, n, once, a.few, a.counted, ended 0 new out p.end o (lay-bytes rs answers p o 0 ending out k))) l
 
   -- with some
   pub straight : (rs : List ℤ) (p : Performed) (o out : List ℕ) → performed rs answers p o ≡ laid 0 ending out
@@ -149,4 +148,4 @@ module _ (plate index book own : List ℕ) (c : Contents) (a : Accepted plate in
   straight rs p o out k m h l =
       let new = transcript_bytes (state_of ending).transcript in
       whole rs answers ending p o out k rs p o out k
-      (omega (arith, run_short, a.stands.few, a.stands.counted, ended 0 new out p.end o (lay-bytes rs answers p o 0 ending out k))) l
+      (omega (arith, run_short, a.few, a.counted, ended 0 new out p.end o (lay-bytes rs answers p o 0 ending out k))) l

@@ -20,18 +20,19 @@ ghost use Rattle.reader.specs.Own.{OwnRoom, own_lines, own_stored};
 ghost use Rattle.running.specs.Call.{run_call};
 
 use causes::{Cause, Ran, Refusal};
-use phrases::{Book, EMPTY_INDEX_NUMBERS, INDEX_NUMBERS};
-use reader::{OWN_BYTES, PlateRead};
+use phrase_lookup::Lookup;
+use phrases::{EMPTY_INDEX_NUMBERS, INDEX_NUMBERS};
+use reader::OWN_BYTES;
 
 // The 16-bit numbers of scratch that a run asks for.
 pub const SCRATCH_NUMBERS: usize = 64;
 
 // The run with a book that is checked and room for the plate's own phrases, if it has some.
-fn run_own<'a>(
+fn run_own(
     plate: &[u8],
-    index: &'a mut [u32],
-    book: &'a [u8],
-    own: &'a mut [u8],
+    index: &mut [u32],
+    book: &[u8],
+    own: &mut [u8],
     answers: &[i32],
     scratch: &mut [u16],
     transcript: &mut [u8],
@@ -41,25 +42,22 @@ fn run_own<'a>(
     ensures scratch_unchanged { scratch.new ≡ scratch.old }
     ensures own_after { own.new ≡ pour 0 (own_lines (own_stored (book_texts book.now) plate.now)) own.old }
 {
-    match reader::read_contents(plate, index, book, own) {
-        PlateRead::Refused(r) => Ran::Refused(r),
-        PlateRead::Holds(c) => {
-            if scratch.len() < SCRATCH_NUMBERS {
-                return Ran::Refused(Refusal {
-                    cause: Cause::TooShort,
-                    place: 0,
-                });
-            }
-            passes::write(plate, index, book, own, c, answers, transcript)
-        }
+    let contents = reader::read_contents(plate, index, book, own)?;
+    if scratch.len() < SCRATCH_NUMBERS {
+        return Err(Refusal {
+            cause: Cause::TooShort,
+            place: 0,
+        });
     }
+    let known = Lookup::new(index, book, own, contents.own);
+    passes::write(plate, &known, contents, answers, transcript)
 }
 
 // The run with a book that is checked. Only a plate with own phrases is given room for them.
-fn run_with<'a>(
+fn run_with(
     plate: &[u8],
-    index: &'a mut [u32],
-    book: &'a [u8],
+    index: &mut [u32],
+    book: &[u8],
     answers: &[i32],
     scratch: &mut [u16],
     transcript: &mut [u8],
@@ -86,16 +84,11 @@ pub fn run(
     ensures transcript_after { (ran_answer result, transcript.new) ≡ run_call plate.now book.now answers.now (length scratch.old) transcript.old }
     ensures scratch_unchanged { scratch.new ≡ scratch.old }
 {
-    if book.len() == 0 {
+    if book.is_empty() {
         let mut index = [0u32; EMPTY_INDEX_NUMBERS];
         return run_with(plate, &mut index, book, answers, scratch, transcript);
     }
     let mut index = [0u32; INDEX_NUMBERS];
-    match phrase_check::check_book(book, &mut index) {
-        Book::Bad(line) => Ran::Refused(Refusal {
-            cause: Cause::Book,
-            place: line,
-        }),
-        Book::Holds(_) => run_with(plate, &mut index, book, answers, scratch, transcript),
-    }
+    phrase_check::check_book(book, &mut index)?;
+    run_with(plate, &mut index, book, answers, scratch, transcript)
 }

@@ -1,26 +1,25 @@
 // The run in one or two passes.
-ghost use Rattle.std.specs.Prelude.{◌≡◌, List, ℤ, ◌+◌, ◌*◌, ◌≤◌};
+ghost use Rattle.std.specs.Prelude.{◌≡◌, List, ℤ, ◌+◌, ◌*◌, ◌≤◌, length};
 ghost use Rattle.causes.specs.Answers.{made, lent, ran_answer};
 ghost use Rattle.causes.specs.declared.Outcome.TheVariants.{End};
+ghost use Rattle.causes.specs.Limits.{most_plate_bytes};
 ghost use Rattle.transcript.specs.State.{start};
 ghost use Rattle.transcript.specs.Perform.{report};
 ghost use Rattle.transcript.specs.Machine.{machine_state, laid, performed};
-ghost use Rattle.reader.specs.Holding.{program_at};
+ghost use Rattle.reader.specs.Holding.{instructions_at, program_at, Stands};
 ghost use Rattle.running.specs.Run.{run};
-ghost use Rattle.run.specs.Accepted.{Accepted, instructions_from, Continues};
+ghost use Rattle.run.specs.Accepted.{Continues};
 
 use causes::{Cause, Outcome, Ran, Refusal};
+use phrase_lookup::Lookup;
 use reader::Contents;
 use run_steps::meet;
 use transcript::Performed;
 
 // The run of n instructions from a bit on, behind what has been performed.
-fn run_from<'a>(
+fn run_from(
     plate: &[u8],
-    index: &'a [u32],
-    book: &'a [u8],
-    own: &'a [u8],
-    c: Contents,
+    known: &Lookup,
     from: usize,
     n: usize,
     answers: &[i32],
@@ -28,68 +27,38 @@ fn run_from<'a>(
     out: &mut [u8],
     begun: Performed,
 ) -> Performed
-    requires { Accepted plate.now index.now book.now own.now c × Continues plate.now book.now own.now c.own n from × (begun.outcome ≡ End) × (begun.machine.steps + 3 * n ≤ 18446744073709551615) }
-    ensures { performed registers.new answers.now result out.new ≡ laid begun.end (run (instructions_from plate.now book.now own.now c.own n from) 0 (machine_state registers.old answers.now begun.machine)) out.old }
+    requires { (length plate.now ≤ most_plate_bytes) × Continues plate.now known.now n from × (begun.outcome ≡ End) × (begun.machine.steps + 3 * n ≤ 18446744073709551615) }
+    ensures { performed registers.new answers.now result out.new ≡ laid begun.end (run (instructions_at plate.now known.now n from) 0 (machine_state registers.old answers.now begun.machine)) out.old }
 {
-    let count = c.own;
     let mut p = begun;
     let mut bit = from;
-    let mut left = n;
     let mut over = 0;
-    while 0 < left {
-        let met = meet(
-            plate,
-            bit,
-            left - 1,
-            index,
-            book,
-            own,
-            count,
-            over,
-            answers,
-            registers,
-            out,
-            p,
-        );
-        let q = met.left;
-        let outcome = q.outcome;
-        let Outcome::End = outcome else {
-            return q;
+    for left in (0..n).rev() {
+        let met = meet(plate, bit, left, known, over, answers, registers, out, p);
+        p = met.left;
+        let Outcome::End = p.outcome else {
+            return p;
         };
-        p = q;
         bit = met.next;
-        left -= 1;
         over = met.over;
     }
     p
 }
 
 // The run of a plate's instructions, with registers that are all 0 at first: the buffer takes as much of the transcript as it has room for.
-fn produce<'a>(
-    plate: &[u8],
-    index: &'a [u32],
-    book: &'a [u8],
-    own: &'a [u8],
-    c: Contents,
-    answers: &[i32],
-    out: &mut [u8],
-) -> Performed
-    requires { Accepted plate.now index.now book.now own.now c }
-    ensures { (registers : List ℤ) × (performed registers answers.now result out.new ≡ laid 0 (run (program_at plate.now book.now own.now c).instructions 0 (start answers.now)) out.old) }
+fn produce(plate: &[u8], known: &Lookup, c: Contents, answers: &[i32], out: &mut [u8]) -> Performed
+    requires { Stands plate.now known.now c }
+    ensures { (registers : List ℤ) × (performed registers answers.now result out.new ≡ laid 0 (run (program_at plate.now known.now c).instructions 0 (start answers.now)) out.old) }
 {
     let mut registers = [0i32; 32];
-    let m = machine::fresh();
     let begun = Performed {
-        machine: m,
+        machine: machine::fresh(),
         outcome: Outcome::End,
         end: 0,
     };
     run_from(
         plate,
-        index,
-        book,
-        own,
-        c,
+        known,
         c.bit,
         c.instructions,
         answers,
@@ -102,40 +71,34 @@ fn produce<'a>(
 // The run of an accepted plate. No transcript has more bytes than 14 for each answer and three times what is left of the room of its
 // instructions' lines in a listing with 4 less for each instruction; where there are no answers, each line comes once. A buffer of so many is
 // written straight. Else the run is made on no buffer first, to learn the transcript's length; then 11, or the transcript is written.
-pub fn write<'a>(
+pub fn write(
     plate: &[u8],
-    index: &'a [u32],
-    book: &'a [u8],
-    own: &'a [u8],
+    known: &Lookup,
     c: Contents,
     answers: &[i32],
     transcript: &mut [u8],
 ) -> Ran
-    requires { Accepted plate.now index.now book.now own.now c }
-    ensures { (ran_answer result, transcript.new) ≡ lent (made (report (run (program_at plate.now book.now own.now c).instructions 0 (start answers.now)))) transcript.old }
+    requires { Stands plate.now known.now c }
+    ensures { (ran_answer result, transcript.new) ≡ lent (made (report (run (program_at plate.now known.now c).instructions 0 (start answers.now)))) transcript.old }
 {
     machine::see_answers(answers);
     let n = c.instructions;
     let room = c.room;
-    if answers.len() == 0 {
-        if room <= transcript.len() + 4 * n {
-            return machine::report_of(produce(plate, index, book, own, c, answers, transcript));
-        }
+    if answers.is_empty() && room <= transcript.len() + 4 * n {
+        return machine::report_of(produce(plate, known, c, answers, transcript));
     }
-    if answers.len() <= 65536 {
-        if room <= 16777216 {
-            if 3 * room + 14 * answers.len() <= transcript.len() + 12 * n {
-                return machine::report_of(produce(plate, index, book, own, c, answers, transcript));
-            }
-        }
+    if answers.len() <= 65536
+        && room <= 16777216
+        && 3 * room + 14 * answers.len() <= transcript.len() + 12 * n
+    {
+        return machine::report_of(produce(plate, known, c, answers, transcript));
     }
-    let p = produce(plate, index, book, own, c, answers, &mut []);
-    let length = p.end;
+    let length = produce(plate, known, c, answers, &mut []).end;
     if transcript.len() < length {
-        return Ran::Refused(Refusal {
+        return Err(Refusal {
             cause: Cause::TooShort,
             place: 0,
         });
     }
-    machine::report_of(produce(plate, index, book, own, c, answers, transcript))
+    machine::report_of(produce(plate, known, c, answers, transcript))
 }

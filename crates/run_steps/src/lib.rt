@@ -6,8 +6,8 @@
 
 mod perform;
 
-ghost use Rattle.std.specs.Prelude.{◌≡◌, List, ℕ, ◌+◌, ◌≤◌, ◌<◌, ℤ};
-ghost use Rattle.phrases.specs.Lookup.{phrases_in};
+ghost use Rattle.std.specs.Prelude.{◌≡◌, List, ℕ, ◌+◌, ◌≤◌, ◌<◌, length, ℤ};
+ghost use Rattle.causes.specs.Limits.{most_plate_bytes};
 ghost use Rattle.transcript.specs.State.{step};
 ghost use Rattle.transcript.specs.Perform.{goes_on};
 ghost use Rattle.transcript.specs.Machine.{machine_state, laid, performed};
@@ -15,15 +15,15 @@ ghost use Rattle.plate.specs.Program.{if_skip};
 ghost use Rattle.plate.specs.Reading.{got};
 ghost use Rattle.plate.specs.Plate.{instruction};
 ghost use Rattle.fields.specs.Places.{place_at, end_with, Known};
-ghost use Rattle.plate_texts.specs.TextsAt.{Lent};
 ghost use Rattle.instructions.specs.Heads.{headed, HeadFits, instruction_of};
 ghost use Rattle.run_steps.specs.Meets.{left_by, over_by};
 
-use crate::perform::{answer, offer, put_line, rule, show};
+use crate::perform::{answer, leave, offer, put_line};
 use causes::Outcome;
 use instructions::{Head, IfRead, accepted_end, accepted_head, accepted_if};
+use phrase_lookup::Lookup;
 use transcript::{Machine, Performed};
-use transcript_lines::ASKED;
+use transcript_lines::{ASKED, RULED, SHOWN};
 
 // What an instruction leaves: the machine, the outcome and the transcript's end, how many instructions behind it are passed over, and the
 // bit behind it.
@@ -56,73 +56,72 @@ fn decide(registers: &[i32; 32], read: IfRead, m: Machine, at: usize) -> Met
 {
     let n = machine::stepped(m);
     if machine::holds(registers, read.test) {
-        return go_on(n, at, 0, read.next);
+        go_on(n, at, 0, read.next)
+    } else {
+        go_on(n, at, read.skip, read.next)
     }
-    go_on(n, at, read.skip, read.next)
 }
 
 // The instruction that a head begins, where it is not passed over.
-fn perform_head<'a>(
+fn perform_head(
     plate: &[u8],
     head: Head,
-    index: &'a [u32],
-    book: &'a [u8],
-    own: &'a [u8],
-    count: usize,
+    known: &Lookup,
     answers: &[i32],
     registers: &mut [i32; 32],
     out: &mut [u8],
     at: usize,
     m: Machine,
 ) -> Met
-    requires { Lent plate.now index.now book.now own.now count × HeadFits plate.now head × Known (headed plate.now (phrases_in book.now own.now count) head) × (m.steps + 3 ≤ 18446744073709551615) }
-    ensures out_after { performed registers.new answers.now result.left out.new ≡ laid at (left_by 0 (instruction_of (headed plate.now (phrases_in book.now own.now count) head)) (machine_state registers.old answers.now m)) out.old }
-    ensures over_value { (result.over ≡ over_by 0 (instruction_of (headed plate.now (phrases_in book.now own.now count) head)) (machine_state registers.old answers.now m)) × (result.left.machine.steps ≤ m.steps + 3) }
-    ensures next_value { got 0 (place_at plate.now result.next) ≡ end_with 0 (headed plate.now (phrases_in book.now own.now count) head) }
+    requires { (length plate.now ≤ most_plate_bytes) × HeadFits plate.now head × Known (headed plate.now known.now head) × (m.steps + 3 ≤ 18446744073709551615) }
+    ensures out_after { performed registers.new answers.now result.left out.new ≡ laid at (left_by 0 (instruction_of (headed plate.now known.now head)) (machine_state registers.old answers.now m)) out.old }
+    ensures over_value { (result.over ≡ over_by 0 (instruction_of (headed plate.now known.now head)) (machine_state registers.old answers.now m)) × (result.left.machine.steps ≤ m.steps + 3) }
+    ensures next_value { got 0 (place_at plate.now result.next) ≡ end_with 0 (headed plate.now known.now head) }
 {
     match head {
         Head::Input { register, text } => {
-            let line = put_line(plate, text, index, book, own, count, ASKED, out, at);
+            let line = put_line(plate, text, known, ASKED, out, at);
             answer(line, register, answers, registers, out, m)
         }
-        Head::Inputs { register, text } => offer(
-            plate, text, index, book, own, count, register, answers, registers, out, at, m,
-        ),
-        Head::Print { text } => show(plate, text, index, book, own, count, out, at, m),
-        Head::Printex { text } => rule(plate, text, index, book, own, count, out, at, m),
+        Head::Inputs { register, text } => {
+            offer(plate, text, known, register, answers, registers, out, at, m)
+        }
+        Head::Print { text } => {
+            let line = put_line(plate, text, known, SHOWN, out, at);
+            leave(line, Outcome::End, m)
+        }
+        Head::Printex { text } => {
+            let line = put_line(plate, text, known, RULED, out, at);
+            leave(line, Outcome::Verdict, m)
+        }
         Head::Goto { skip, next } => go_on(machine::stepped(m), at, skip, next),
         Head::IfSkip { bit, ahead } => decide(registers, accepted_if(plate, bit, ahead), m, at),
     }
 }
 
 // An instruction with so many behind it, and so many still to be passed over, behind what has been performed.
-pub fn meet<'a>(
+pub fn meet(
     plate: &[u8],
     bit: usize,
     behind: usize,
-    index: &'a [u32],
-    book: &'a [u8],
-    own: &'a [u8],
-    count: usize,
+    known: &Lookup,
     over: usize,
     answers: &[i32],
     registers: &mut [i32; 32],
     out: &mut [u8],
     begun: Performed,
 ) -> Met
-    requires { Lent plate.now index.now book.now own.now count × Known (instruction (phrases_in book.now own.now count) behind (place_at plate.now bit)) × (begun.machine.steps + 3 ≤ 18446744073709551615) }
-    ensures out_after { performed registers.new answers.now result.left out.new ≡ laid begun.end (left_by over (instruction_of (instruction (phrases_in book.now own.now count) behind (place_at plate.now bit))) (machine_state registers.old answers.now begun.machine)) out.old }
-    ensures over_value { (result.over ≡ over_by over (instruction_of (instruction (phrases_in book.now own.now count) behind (place_at plate.now bit))) (machine_state registers.old answers.now begun.machine)) × (result.left.machine.steps ≤ begun.machine.steps + 3) }
-    ensures next_value { got 0 (place_at plate.now result.next) ≡ end_with 0 (instruction (phrases_in book.now own.now count) behind (place_at plate.now bit)) }
+    requires { (length plate.now ≤ most_plate_bytes) × Known (instruction known.now behind (place_at plate.now bit)) × (begun.machine.steps + 3 ≤ 18446744073709551615) }
+    ensures out_after { performed registers.new answers.now result.left out.new ≡ laid begun.end (left_by over (instruction_of (instruction known.now behind (place_at plate.now bit))) (machine_state registers.old answers.now begun.machine)) out.old }
+    ensures over_value { (result.over ≡ over_by over (instruction_of (instruction known.now behind (place_at plate.now bit))) (machine_state registers.old answers.now begun.machine)) × (result.left.machine.steps ≤ begun.machine.steps + 3) }
+    ensures next_value { got 0 (place_at plate.now result.next) ≡ end_with 0 (instruction known.now behind (place_at plate.now bit)) }
 {
     let at = begun.end;
     let m = begun.machine;
     if 0 < over {
-        let next = accepted_end(plate, bit, behind, index, book, own, count);
+        let next = accepted_end(plate, bit, behind, known);
         return go_on(m, at, over - 1, next);
     }
     let head = accepted_head(plate, bit);
-    perform_head(
-        plate, head, index, book, own, count, answers, registers, out, at, m,
-    )
+    perform_head(plate, head, known, answers, registers, out, at, m)
 }

@@ -4,7 +4,7 @@ use native.Mathlib.Omega.{arith}
 use mathlib.Core.Path.{◌≡◌, refl}
 use mathlib.Core.List.{List, [], ◌∷◌}
 use mathlib.Core.Bool.{Bool, true, false, cond}
-use mathlib.Core.Option.{Option, none, some}
+use Rattle.std.specs.Prelude.{Option, None, Some}
 use lib.ListN.{length, drop}
 use lib.Dec.{leb}
 use borrow.Author.Tests.{leb-true}
@@ -24,20 +24,7 @@ use Rattle.lines.specs.Line.{
   if_skip_line,
   faulty,
 }
-use Rattle.lines.specs.Check.{
-  Open,
-  Seen,
-  nothing_seen,
-  cause_of,
-  next,
-  turn,
-  at_end,
-  check_from,
-  lines_of,
-  Accepted,
-  check_lines,
-  accept,
-}
+use Rattle.lines.specs.Check.{Open, Seen, nothing_seen, cause_of, next, turn, at_end, check_from, lines_of, check_lines, accept}
 use Rattle.guide.specs.Guide.{guide_of}
 use Rattle.guide.proofs.Counting.{all_lines}
 
@@ -84,10 +71,10 @@ module _ (book : List Text) (cause : Cause) (place : ℕ) where
   lines-refused n s (l ∷ ls) h e = go (cause_of book s l) (λ f. lines-refused (suc n) (next n l s) ls (next-before n l s h) f) e
     where
       go : (o : Option Cause) → (check_from book (suc n) (next n l s) ls ≡ refused cause place → place < suc n + length ls)
-          → ◌≡◌ {A = Result Seen} (elim o [ none ↦ check_from book (suc n) (next n l s) ls | some c ↦ refused c n ]) (refused cause place)
+          → ◌≡◌ {A = Result Seen} (elim o [ None ↦ check_from book (suc n) (next n l s) ls | Some c ↦ refused c n ]) (refused cause place)
           → place < n + suc (length ls)
-      go none f e = omega (arith, f e)
-      go (some c) f e = let same : n ≡ place = cc in omega arith
+      go None f e = omega (arith, f e)
+      go (Some c) f e = let same : n ≡ place = cc in omega arith
 
   -- nothing is refused behind what was made
   refused-first : {A B : Type 0} (m : Result A) (f : A → B) → (m >>= λ a. made (f a)) ≡ refused cause place → m ≡ refused cause place

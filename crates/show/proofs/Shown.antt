@@ -11,8 +11,8 @@ use Rattle.causes.specs.Causes.{number}
 use Rattle.causes.specs.declared.Cause.{Cause}
 use Rattle.causes.specs.declared.Cause.TheVariants.{PlateTooLong}
 use Rattle.causes.specs.declared.Refusal.{Refusal}
-use Rattle.causes.specs.declared.Written.{Written}
-use Rattle.causes.specs.declared.Written.TheVariants.{Done, Refused}
+use Rattle.std.specs.Prelude.{Ok, Err}
+use Rattle.std.specs.Prelude as std
 use Rattle.causes.proofs.Results.{made-from}
 use Rattle.causes.proofs.Lent.{written, refusal-no-length, front, written-wrote, written-fits}
 use Rattle.text.specs.Parts.{split}
@@ -125,8 +125,8 @@ taken-front : (result rest after : List ℕ) (n : ℕ) → n ≡ length result �
 taken-front result rest after n e f = let g = front result rest after n e f in (g.0, (g.1, rw g.0 e))
 
 -- translate in a buffer of 2,953 bytes or more, which is never too short
-module _ (guide buffer after : List ℕ) {x : Written} (e : (written_answer x, after) ≡ translate_call guide [] buffer) where
-  pub turned_down : {r : Refusal} → x ≡ Refused r → 2953 ≤ length buffer → Refuses guide r.cause r.place
+module _ (guide buffer after : List ℕ) {x : std.Result ℕ Refusal} (e : (written_answer x, after) ≡ translate_call guide [] buffer) where
+  pub turned_down : {r : Refusal} → x ≡ Err r → 2953 ≤ length buffer → Refuses guide r.cause r.place
   unfolding translate_call
   turned_down {r} f h = go (translation [] guide) refl (rw f at e)
     where
@@ -144,7 +144,7 @@ module _ (guide buffer after : List ℕ) {x : Written} (e : (written_answer x, a
           record { text = k.text ∙ same_line c r.cause n r.place cause place; small = omega (arith, k.small) }
 
   -- the plate stands at the front
-  pub taken : {n : ℕ} → x ≡ Done n → Accepts guide (take n after) × Front n after
+  pub taken : {n : ℕ} → x ≡ Ok n → Accepts guide (take n after) × Front n after
   unfolding translate_call
   taken {n} f =
       let w = written-wrote (translation [] guide) buffer after n (sym (rw f at e)) in
@@ -152,7 +152,7 @@ module _ (guide buffer after : List ℕ) {x : Written} (e : (written_answer x, a
       (rw l.0 (translation-made guide w.result w.makes), l.1)
 
 -- read_plate of an accepted guide's plate in a buffer of 327,680 bytes or more
-module _ (guide plate buffer after : List ℕ) (x : Written) (a : Accepts guide plate)
+module _ (guide plate buffer after : List ℕ) (x : std.Result ℕ Refusal) (a : Accepts guide plate)
     (e : (written_answer x, after) ≡ read_plate_call plate [] buffer) (h : 327680 ≤ length buffer) where
   read_answer : ◌≡◌ {A = Answer × List ℕ} (written_answer x, after)
       (wrote (length a.listing), a.listing ++ drop (length a.listing) buffer)
@@ -162,11 +162,11 @@ module _ (guide plate buffer after : List ℕ) (x : Written) (a : Accepts guide 
   answer-is : written_answer x ≡ wrote (length a.listing)
   answer-is = ap (λ (p : Answer × List ℕ). p.0) read_answer
 
-  pub never-refused : {r : Refusal} → x ≡ Refused r → ⊥
+  pub never-refused : {r : Refusal} → x ≡ Err r → ⊥
   never-refused f = refusal-no-length (rw f at answer-is)
 
   -- the listing stands at the front
-  pub listed : {n : ℕ} → x ≡ Done n → (take n after ++ plate_line plate ≡ shown guide) × Front n after
+  pub listed : {n : ℕ} → x ≡ Ok n → (take n after ++ plate_line plate ≡ shown guide) × Front n after
   listed {n} f =
       let k : wrote n ≡ wrote (length a.listing) = rw f at answer-is in
       let size : n ≡ length a.listing = cc in

@@ -12,6 +12,7 @@ ghost use Rattle.show.specs.Show.{shown};
 
 use causes::Written;
 use causes::limits::{LISTING_BYTES, PLATE_BYTES};
+pub use print::print_shown;
 
 // What plateshow prints, from the buffer's front on, as far as it goes; and its length.
 pub fn show(guide: &[u8], out: &mut [u8]) -> usize
@@ -19,15 +20,13 @@ pub fn show(guide: &[u8], out: &mut [u8]) -> usize
 {
     let mut plate = [0; PLATE_BYTES];
     match translate::translate(guide, b"", &mut plate) {
-        Written::Refused(r) => printed::put_refused(out, 0, r),
-        Written::Done(length) => {
+        Err(r) => printed::put_refused(out, 0, r),
+        Ok(length) => {
             let mut listing = [0; LISTING_BYTES];
             match read_plate::read_plate(&plate[..length], b"", &mut listing) {
                 // An accepted guide's plate is never refused.
-                Written::Refused(_) => 0,
-                Written::Done(size) => {
-                    print::put_accepted(out, &listing[..size], &plate[..length])
-                }
+                Err(_) => 0,
+                Ok(size) => { print::put_accepted(out, &listing[..size], &plate[..length]) }
             }
         }
     }

@@ -75,11 +75,6 @@ module _ (x : ℕ) (h : x ≤ 0x7F) where
 
 -- ---- of ASCII only, and of bytes only
 
-pub well-ascii-front : (s t : List ℕ) → all ascii s ≡ true → well_formed (s ++ t) ≡ well_formed t
-well-ascii-front [] t h = refl
-well-ascii-front (b ∷ s) t h =
-    well-ascii-first b (leb-true _ _ (all_first ascii b s h)) (s ++ t) ∙ well-ascii-front s t (all_rest ascii b s h)
-
 pub well-ascii : (s : List ℕ) → all ascii s ≡ true → well_formed s ≡ true
 unfolding well_formed letters_behind all
 well-ascii [] h = refl

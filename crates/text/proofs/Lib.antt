@@ -8,5 +8,4 @@ pub mod Bytes
 pub mod Sizes
 pub mod Places
 pub mod Searches
-pub mod Flags
-pub mod Windows
+pub mod Words

@@ -5,12 +5,12 @@ use native.Mathlib.Nat.{zero-add, suc-add}
 use native.Mathlib.Numerals.{add-one, sub-one}
 use mathlib.Core.Path.{◌≡◌, refl, sym, ap, ◌∙◌}
 use mathlib.Core.List.{List, [], ◌∷◌}
-use mathlib.Core.Bool.{Bool, true, false, cond, ◌&&◌, and_assoc}
+use mathlib.Core.Bool.{Bool, true, false, cond}
 use lib.ListN.{length, take, drop, get_or, drop_of_length-le}
-use lib.Seq.{drop-cons, drop-nil, drop-drop, get_or-drop}
+use lib.Seq.{drop-cons, drop-nil, get_or-drop}
 use lib.Dec.{eqb, leb-suc-suc}
 use borrow.Author.Tests.{eq-eqb, ne_eqb, le-leb, lt-leb}
-use Rattle.text.specs.Parts.{until_byte, split, on_first, parts_from, same, all}
+use Rattle.text.specs.Parts.{until_byte, split, on_first, parts_from, same}
 use Rattle.text.proofs.Tests.{same-other}
 
 -- ---- the first byte x from the place i on
@@ -64,10 +64,6 @@ module _ (x : ℕ) where
     pub pass-last : length s < a → (n : ℕ) → drop n (parts_from x a s) ≡ parts_from x a s
     pass-last h n = rw (parts_none h) (drop-nil n)
 
-    pub all-last : (p : List ℕ → Bool) → length s < a → all p (parts_from x a s) ≡ true
-    unfolding all
-    all-last p h = rw (parts_none h)
-
   -- the part that starts at a ends at e
   module _ (s : List ℕ) (a e : ℕ) (h : a ≤ length s) (k : e ≡ a + until_byte x (drop a s)) where
     pub parts_next : parts_from x a s ≡ take (e - a) (drop a s) ∷ parts_from x (e + 1) s
@@ -80,15 +76,6 @@ module _ (x : ℕ) where
     pub pass-next : (n : ℕ) → (n ≡ 0 → ⊥) → drop n (parts_from x a s) ≡ drop (n - 1) (parts_from x (e + 1) s)
     pass-next zero l = absurd (l refl)
     pass-next (suc n) l = rw (parts_next, sub-one)
-
-    -- a test of every part
-    pub all-next : (p : List ℕ → Bool) → p (take (e - a) (drop a s)) ≡ true → all p (parts_from x a s) ≡ all p (parts_from x (e + 1) s)
-    unfolding all
-    all-next p l = rw (parts_next, l)
-
-    pub all-stop : (p : List ℕ → Bool) → p (take (e - a) (drop a s)) ≡ false → all p (parts_from x a s) ≡ false
-    unfolding all
-    all-stop p l = rw (parts_next, l)
 
 -- ---- the part that starts at a, among the parts from there on
 
@@ -107,50 +94,7 @@ module _ (x : ℕ) (s : List ℕ) (a e : ℕ) (k : e ≡ a + until_byte x (drop 
 pub at_front : (ps : List (List ℕ)) (k : ℕ) → get_or ps k [] ≡ get_or (drop k ps) 0 []
 at_front ps k = let e : k + 0 ≡ k = omega arith in sym (rw e at (get_or-drop k ps 0 []))
 
--- ---- a test of every element from the place i on
-
-module _ {A : Type 0} (p : A → Bool) (d : A) (s : List A) (i : ℕ) where
-  pub all_none : length s ≤ i → all p (drop i s) ≡ true
-  unfolding all
-  all_none h = rw (drop_of_length-le s h)
-
-  pub all-not : i < length s → p (get_or s i d) ≡ false → all p (drop i s) ≡ false
-  unfolding all
-  all-not h e = rw (drop-cons s i d h, e)
-
-  pub all-on : i < length s → p (get_or s i d) ≡ true → all p (drop i s) ≡ all p (drop (i + 1) s)
-  unfolding all
-  all-on h e = rw (drop-cons s i d h, add-one, e)
-
-module _ {A : Type 0} (p : A → Bool) where
-  -- a test of the first n, and of those behind them
-  all-cut : (n : ℕ) (s : List A) → all p s ≡ (all p (take n s) && all p (drop n s))
-  unfolding all
-  all-cut zero s = refl
-  all-cut (suc n) [] = refl
-  all-cut (suc n) (a ∷ s) = ap (λ b. p a && b) (all-cut n s) ∙ sym (and_assoc (p a) (all p (take n s)) (all p (drop n s)))
-
-  module _ (n : ℕ) (s : List A) (i : ℕ) where
-    pub all-passed : all p (take n (drop i s)) ≡ true → all p (drop i s) ≡ all p (drop (i + n) s)
-    all-passed e = all-cut n (drop i s) ∙ rw (e, drop-drop)
-
-    pub all-failed : all p (take n (drop i s)) ≡ false → all p (drop i s) ≡ false
-    all-failed e = all-cut n (drop i s) ∙ rw e
-
--- ---- two texts from the place i on
+-- ---- two texts
 
 pub same-short : (s t : List ℕ) → (length s ≡ length t → ⊥) → same s t ≡ false
 same-short s t n = same-other s t (λ e. n (ap length e))
-
-module _ (s t : List ℕ) (i : ℕ) where
-  pub same_none : length s ≤ i → length t ≤ i → same (drop i s) (drop i t) ≡ true
-  unfolding same
-  same_none h k = rw (drop_of_length-le s h, drop_of_length-le t k)
-
-  pub same_not : i < length s → i < length t → (get_or s i 0 ≡ get_or t i 0 → ⊥) → same (drop i s) (drop i t) ≡ false
-  unfolding same
-  same_not h k n = rw (drop-cons s i 0 h, drop-cons t i 0 k, ne_eqb _ _ n)
-
-  pub same-on : i < length s → i < length t → get_or s i 0 ≡ get_or t i 0 → same (drop i s) (drop i t) ≡ same (drop (i + 1) s) (drop (i + 1) t)
-  unfolding same
-  same-on h k e = rw (drop-cons s i 0 h, drop-cons t i 0 k, add-one, eq-eqb _ _ e)

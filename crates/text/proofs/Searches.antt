@@ -2,7 +2,7 @@
 use Prim.Native.Nat.{ℕ, zero, suc, ◌+◌, ◌≤◌, ◌<◌}
 use native.Mathlib.Omega.{arith}
 use native.Mathlib.Nat.{zero-add}
-use mathlib.Core.Path.{◌≡◌, refl, sym, ◌∙◌}
+use mathlib.Core.Path.{◌≡◌, refl, sym}
 use mathlib.Core.List.{List, [], ◌∷◌}
 use mathlib.Core.Bool.{Bool, true, false, cond}
 use lib.ListN.{length, drop, get_or}
@@ -11,28 +11,6 @@ use lib.Dec.{eqb, ltb}
 use borrow.Author.Tests.{ltb-true, ltb-false, lt-ltb, le-ltb}
 use Rattle.text.specs.Parts.{until_byte}
 use Rattle.text.proofs.Places.{until-here, until-later}
-
--- two to four bytes one behind the other, none of which is x
-module _ (x : ℕ) (s : List ℕ) (i : ℕ) where
-  abbrev Other : ℕ → Type 0
-  Other k = get_or s k 0 ≡ x → ⊥
-
-  abbrev Passed : ℕ → Type 0
-  Passed n = i + until_byte x (drop i s) ≡ i + n + until_byte x (drop (i + n) s)
-
-  passed-next : (n m : ℕ) → n + 1 ≡ m → i + n < length s → Other (i + n) → Passed n → Passed m
-  passed-next n m e h k p = let sum : i + n + 1 ≡ i + m = omega arith in p ∙ rw sum at (until-later x s (i + n) h k)
-
-  module _ (h : i + 1 < length s) (k : Other i) (l : Other (i + 1)) where
-    pub pass-two : Passed 2
-    pass-two = passed-next 1 2 (omega arith) h l (until-later x s i (omega arith) k)
-
-    module _ (h3 : i + 2 < length s) (l3 : Other (i + 2)) where
-      pub pass-three : Passed 3
-      pass-three = passed-next 2 3 (omega arith) h3 l3 pass-two
-
-      pub pass-four : i + 3 < length s → Other (i + 3) → Passed 4
-      pass-four h4 l4 = passed-next 3 4 (omega arith) h4 l4 pass-three
 
 module _ (x : ℕ) where
   -- n bytes that have no x among them

@@ -5,4 +5,4 @@
 
 mod search;
 
-pub use search::{find, find_far, find_within};
+pub use search::find;

@@ -1,28 +1,21 @@
 -- The bits of texts, taken apart at their front.
 use Prim.Native.Nat.{ℕ, ◌+◌, ◌-◌, ◌≤◌, ◌<◌}
 use native.Mathlib.Omega.{arith}
-use native.Mathlib.Numerals.{add-one}
 use mathlib.Core.Path.{◌≡◌, refl}
 use mathlib.Core.List.{List, [], ◌∷◌, ◌++◌}
-use lib.ListN.{length, take, drop, get_or, drop_of_length-le}
-use lib.Seq.{drop-cons}
+use lib.ListN.{length, take, drop}
 use Rattle.bits.specs.Bits.{bits_of}
 use Rattle.text.specs.Parts.{until_byte, parts_from, comma}
 use Rattle.text.proofs.Places.{parts_next, parts_none}
 use Rattle.text.specs.Text.{Text}
-use Rattle.phrases.specs.Phrases.{Phrases, width}
+use Rattle.std.specs.Prelude.{Some}
+use Rattle.phrases.specs.declared.Found.{Found}
+use Rattle.phrases.specs.declared.Found.TheVariants.{InBook, InOwn}
+use Rattle.phrases.specs.Phrases.{Phrases, find, width}
+use Rattle.phrases.specs.Lookup.{found_answer}
+use Rattle.phrases.proofs.Answers.{found-is}
 use Rattle.phrases.proofs.Width.{width-least}
-use Rattle.plate.specs.Writing.{ETX, spelled_bits, own_bit, text_bits, texts_bits}
-
--- the characters from the place i on, of k bits each
-module _ (k : ℕ) (t : Text) (i : ℕ) where
-  pub spelled-next : i < length t → spelled_bits k (drop i t) ≡ bits_of k (get_or t i 0) ++ spelled_bits k (drop (i + 1) t)
-  unfolding spelled_bits
-  spelled-next h = rw (drop-cons t i 0 h, add-one)
-
-  pub spelled-end : length t ≤ i → spelled_bits k (drop i t) ≡ bits_of k ETX
-  unfolding spelled_bits
-  spelled-end h = rw (drop_of_length-le t h)
+use Rattle.plate.specs.Writing.{own_bit, text_bits, texts_bits}
 
 -- the fields from the place a on, the first of which ends at e
 module _ (c : Phrases) (line : List ℕ) (a : ℕ) where
@@ -51,7 +44,21 @@ module _ (b : ℕ) where
   own-bit-both (s ∷ ss) [] h k = absurd (k refl)
   own-bit-both (s ∷ ss) (t ∷ ts) h k = refl
 
--- ---- a place has at most 16 bits
+-- ---- the place of a phrase
 
-pub width_fits : (n : ℕ) → n ≤ 65536 → width n ≤ 16
-width_fits n h = width-least n 16 h
+-- a text found at f is written as source, where there is a bit for it, and i in so many bits
+pub record Placed (c : Phrases) (f : Found) (source places i : ℕ) : Type 0 where
+  pub low : source < 2
+  pub few : places ≤ 16
+  pub bits : (t : Text) → found_answer (find c t) ≡ Some f → text_bits c t ≡ bits_of 2 2 ++ own_bit c.book c.own source ++ bits_of places i
+
+module _ (c : Phrases) (i : ℕ) {n p : ℕ} where
+  pub placed-book : n ≡ length c.book → n ≤ 65536 → p ≡ width n → Placed c (InBook i) 0 p i
+  unfolding text_bits
+  placed-book e h k =
+      record { low = omega arith; few = rw k (width-least n 16 h); bits = λ t f. rw (found-is c t f, k, e) refl }
+
+  pub placed-own : n ≡ length c.own → n ≤ 65536 → p ≡ width n → Placed c (InOwn i) 1 p i
+  unfolding text_bits
+  placed-own e h k =
+      record { low = omega arith; few = rw k (width-least n 16 h); bits = λ t f. rw (found-is c t f, k, e) refl }

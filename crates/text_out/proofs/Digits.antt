@@ -5,7 +5,7 @@ use native.Mathlib.Nat.{pow-suc}
 use native.Mathlib.Numerals.{sub-one}
 use mathlib.Core.Path.{◌≡◌, refl, sym, ◌∙◌}
 use mathlib.Core.List.{List, [], ◌∷◌, ◌++◌, append_assoc, append-nil}
-use lib.ListN.{length, take, drop, set, drop_of_length-le, length-drop}
+use lib.ListN.{length, take, drop, set, drop_of_length-le, length-drop, length-set}
 use lib.Seq.{take_all}
 use Rattle.decimals.specs.Number.{decimalℕ}
 use Rattle.decimals.proofs.Decimals.{decimalℕ-one, decimalℕ-more}
@@ -46,17 +46,11 @@ behind_more v digits left (suc k) b h l =
       place = omega (arith, b.place);
     }
 
+-- all that stands from the place k on
 pub behind-none : (v : ℕ) (digits : List ℕ) (left k : ℕ) → Behind v digits left k → length digits ≡ 20 → left < 10
-    → drop k (set digits k (48 + left)) ≡ decimalℕ v
+    → take (20 - k) (drop k (set digits k (48 + left))) ≡ decimalℕ v
 behind-none v digits left k b h l =
+    let all = set digits k (48 + left) in
     let at = drop-at-set digits k (48 + left) (omega (arith, b.place, h)) in
     let is : left % 10 ≡ left = omega arith in
-    at ∙ sym (b.found ∙ rw (decimalℕ-one left l, is))
-
--- a number of one digit
-pub one-digit : (v : ℕ) → v < 10 → decimalℕ v ≡ (48 + v) ∷ []
-one-digit v h = let is : v % 10 ≡ v = omega arith in rw is at (decimalℕ-one v h)
-
--- all that stands from the place k on
-pub from_place : (digits : List ℕ) (k : ℕ) → take (length digits - k) (drop k digits) ≡ drop k digits
-from_place digits k = take_all (length digits - k) (drop k digits) (omega (arith, length-drop k digits))
+    take_all (20 - k) (drop k all) (omega (arith, length-drop k all, length-set digits k (48 + left))) ∙ at ∙ sym (b.found ∙ rw (decimalℕ-one left l, is))

@@ -1,27 +1,31 @@
--- The number of parts from a place on: a byte x is one part more, and at the text's end there is one.
-use Prim.Native.Nat.{ℕ, suc, ◌+◌, ◌≤◌, ◌<◌}
-use native.Mathlib.Numerals.{add-one}
-use mathlib.Core.Path.{◌≡◌}
-use mathlib.Core.List.{List}
-use lib.ListN.{length, drop, get_or, drop_of_length-le}
-use lib.Seq.{drop-cons}
-use borrow.Author.Tests.{eq-eqb, ne_eqb}
+-- The number of parts: one more than the bytes x.
+use Prim.Native.Nat.{ℕ, ◌+◌, ◌-◌}
+use native.Mathlib.Omega.{arith}
+use mathlib.Core.Path.{◌≡◌, refl, ap}
+use mathlib.Core.List.{List, [], ◌∷◌}
+use mathlib.Core.Bool.{Bool, true, false, cond}
+use lib.ListN.{length}
+use lib.Dec.{eqb}
+use Rattle.std.specs.List.{count_by}
+use Rattle.std.proofs.lemmas.List.Recursion.{is_count_by}
 use Rattle.text.specs.Parts.{split, on_first}
 use Rattle.text.proofs.Splits.{Some, split-some}
 
-module _ (x : ℕ) (s : List ℕ) (i : ℕ) where
-  pub count-here : i < length s → get_or s i 0 ≡ x → length (split x (drop i s)) ≡ suc (length (split x (drop (i + 1) s)))
-  unfolding split
-  count-here h e = rw (drop-cons s i 0 h, add-one, eq-eqb (get_or s i 0) x e)
+module _ (x : ℕ) where
+  -- the parts behind the first
+  more : List ℕ → ℕ
+  more s = length (split x s) - 1
 
-  pub count-other : i < length s → (get_or s i 0 ≡ x → ⊥) → length (split x (drop i s)) ≡ length (split x (drop (i + 1) s))
-  unfolding split
-  count-other h n =
-      rw (drop-cons s i 0 h, add-one, ne_eqb (get_or s i 0) x n) (go (split x (drop (suc i) s)) (split-some x (drop (suc i) s)))
+  more-on : (b : ℕ) (s : List ℕ) → more (b ∷ s) ≡ cond (eqb b x) (1 + more s) (more s)
+  unfolding more split
+  more-on b s = go (eqb b x) (split x s) (split-some x s)
     where
-      go : (ps : List (List ℕ)) → Some ps → length (on_first (get_or s i 0) ps) ≡ length ps
-      go ps (q, qs, e) = rw e
+      go : (t : Bool) (ps : List (List ℕ)) → Some ps
+          → length (cond t ([] ∷ ps) (on_first b ps)) - 1 ≡ cond t (1 + (length ps - 1)) (length ps - 1)
+      go true ps (q, qs, e) = rw e (omega arith)
+      go false ps (q, qs, e) = rw e
 
-  pub count-last : length s ≤ i → length (split x (drop i s)) ≡ 1
-  unfolding split
-  count-last h = rw (drop_of_length-le s h)
+  pub parts_counted : (s : List ℕ) → length (split x s) ≡ 1 + count_by (λ b. eqb b x) s
+  unfolding more split
+  parts_counted s = let (q, qs, e) = split-some x s in
+      omega (arith, ap length e, is_count_by more (λ b. eqb b x) refl more-on s)

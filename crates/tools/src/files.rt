@@ -1,12 +1,12 @@
 // Input files.
-ghost use Rattle.std.specs.Prelude.{◌≡◌};
-ghost use Rattle.tools.specs.Inputs.{Within};
+ghost use Rattle.std.specs.Prelude.{◌≤◌, length, IfOk, IfSome};
 
-use crate::{Input, tell_error, tell_number};
+use crate::reading::read_full;
+use crate::telling::{read_or_told, tell_number};
 use printed::front;
 use std::env::{Env, FillError};
 use std::fs::File;
-use std::io::{Error, Read};
+use std::io::Error;
 use std::{fs, io, str};
 
 // The system's numbers of the errors of an argument that is missing, of one that is too long, and of a name that is no text.
@@ -22,50 +22,20 @@ const NAME: usize = 4096;
 // More than the longest text of a plate that is ever read: of a longer one no more is looked at.
 const PLATE_TEXT: usize = 65536;
 
-// Reads until the space is full or the file ends.
-fn read_open<R: Read>(rt: &HostRuntime, file: &mut R, name: &[u8], space: &mut [u8]) -> Input
-    ensures { Within result space.new }
-{
-    let mut done = 0;
-    while done < space.len() {
-        match file.read(&mut space[done..]) {
-            Ok(more) => {
-                if more == 0 {
-                    return Input::Holds(done);
-                }
-                done += more;
-            }
-            Err(e) => {
-                tell_error(rt, name, &e);
-                return Input::Unread;
-            }
-        }
-    }
-    Input::Holds(done)
-}
-
 // A file, opened by its name. The standard library opens none whose name is not UTF-8.
 fn open(rt: &HostRuntime, name: &[u8]) -> io::Result<File> {
-    match str::from_utf8(name) {
-        Ok(path) => fs::open(rt, path),
-        Err(_) => Err(Error::from_raw_os_error(NO_TEXT)),
-    }
+    let path = str::from_utf8(name).map_err(|_| Error::from_raw_os_error(NO_TEXT))?;
+    fs::open(rt, path)
 }
 
-// Reads the file of a name so; `-` is standard input.
-fn read_named(rt: &HostRuntime, name: &[u8], space: &mut [u8]) -> Input
-    ensures { Within result space.new }
+// Reads the file of a name, as far as the space goes; `-` is standard input.
+fn read_named(rt: &HostRuntime, name: &[u8], space: &mut [u8]) -> io::Result<usize>
+    ensures { IfOk result (λ n. n ≤ length space.new) }
 {
-    if text_parts::same(name, b"-") {
-        return read_open(rt, &mut rt.stdin(), name, space);
+    if matches!(name, b"-") {
+        return read_full(&mut rt.stdin(), space);
     }
-    match open(rt, name) {
-        Ok(mut file) => read_open(rt, &mut file, name, space),
-        Err(e) => {
-            tell_error(rt, name, &e);
-            Input::Unread
-        }
-    }
+    read_full(&mut open(rt, name)?, space)
 }
 
 // Why an argument is no name.
@@ -77,46 +47,42 @@ fn argument_error(e: FillError) -> Error {
 }
 
 // The file that argument i names, as far as the space goes.
-pub fn read_file(rt: &HostRuntime, i: usize, space: &mut [u8]) -> Input
-    ensures { Within result space.new }
+pub fn read_file(rt: &HostRuntime, i: usize, space: &mut [u8]) -> Option<usize>
+    ensures { IfSome result (λ n. n ≤ length space.new) }
 {
     let mut name = [0; NAME];
-    match rt.arg(i, &mut name) {
-        Ok(length) => read_named(rt, front(&name, length), space),
-        Err(e) => {
-            tell_error(rt, b"argument", &argument_error(e));
-            Input::Unread
-        }
-    }
+    let length = read_or_told(
+        rt,
+        b"argument",
+        rt.arg(i, &mut name).map_err(argument_error),
+    )?;
+    let name = front(&name, length);
+    read_or_told(rt, name, read_named(rt, name, space))
 }
 
 // The plate that the file of argument i has in hexadecimal, as far as the space goes. What stands behind a plate that is longer than
 // the space is not looked at.
-pub fn read_plate(rt: &HostRuntime, i: usize, plate: &mut [u8]) -> Input
-    ensures { Within result plate.new }
+pub fn read_plate(rt: &HostRuntime, i: usize, plate: &mut [u8]) -> Option<usize>
+    ensures { IfSome result (λ n. n ≤ length plate.new) }
 {
     let mut text = [0; PLATE_TEXT];
-    let Input::Holds(n) = read_file(rt, i, &mut text) else {
-        return Input::Unread;
-    };
+    let n = read_file(rt, i, &mut text)?;
     let found = hex_pairs::read_pairs(front(&text, n), plate);
-    let count = found.count;
-    let fault = found.fault;
-    if plate.len() <= count {
-        return Input::Holds(plate.len());
+    if plate.len() <= found.count {
+        return Some(plate.len());
     }
     if text.len() <= n {
         tell_number(rt, "plate file of more than ", n - 1, " bytes");
-        return Input::Unread;
+        return None;
     }
-    if 0 < fault {
+    if 0 < found.fault {
         tell_number(
             rt,
             "plate file, line ",
-            fault,
+            found.fault,
             ": not pairs of hexadecimal digits",
         );
-        return Input::Unread;
+        return None;
     }
-    Input::Holds(count)
+    Some(found.count)
 }

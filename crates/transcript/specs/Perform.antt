@@ -8,18 +8,7 @@ use Rattle.causes.specs.declared.Outcome.TheVariants.{Verdict, End, Waiting, Out
 use Rattle.text.specs.Text.{Text}
 use Rattle.transcript.specs.Statement.{Statement, input, inputs, print, printex, compares}
 use Rattle.transcript.specs.declared.Test.{Test}
-use Rattle.transcript.specs.State.{
-  TranscriptLine,
-  asked,
-  offered,
-  answered,
-  shown,
-  ruled,
-  State,
-  step,
-  write_line,
-  transcript_bytes,
-}
+use Rattle.transcript.specs.State.{asked, offered, answered, shown, ruled, State, step, write_line, transcript_bytes}
 
 -- how a statement, a block or a run is left: at its end, or by a verdict, a wait after so many wrong answers to the present question, or
 -- the third wrong answer to one

@@ -6,7 +6,7 @@
 use causes::Outcome;
 
 // How an if compares a register with its constant.
-#[derive(Clone, Copy)]
+#[derive(Clone, Copy, Debug, PartialEq, Eq)]
 pub enum Op {
     Eq,
     Ne,
@@ -17,7 +17,7 @@ pub enum Op {
 }
 
 // The R, OP and C of an if.
-#[derive(Clone, Copy)]
+#[derive(Clone, Copy, Debug, PartialEq, Eq)]
 pub struct Test {
     pub register: usize,
     pub op: Op,
@@ -25,7 +25,7 @@ pub struct Test {
 }
 
 // The numbers of a walk or run: answers taken and steps. Its registers and its transcript stand in what is lent.
-#[derive(Clone, Copy)]
+#[derive(Clone, Copy, Debug, PartialEq, Eq)]
 pub struct Machine {
     pub taken: usize,
     pub steps: usize,

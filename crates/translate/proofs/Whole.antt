@@ -4,16 +4,16 @@ use native.Mathlib.Omega.{arith}
 use mathlib.Core.Path.{◌≡◌, sym, ap, ◌∙◌}
 use mathlib.Core.List.{List, []}
 use mathlib.Core.Option.{none}
+use Rattle.std.specs.Prelude.{Ok, Err}
 use lib.ListN.{length, replicate, length-replicate}
 use Rattle.causes.specs.Answers.{made, refused, Answer, refusing}
-use Rattle.causes.specs.declared.Cause.TheVariants.{Book}
 use Rattle.causes.specs.declared.Refusal.{Refusal}
-use Rattle.phrases.specs.declared.Book.TheVariants.{Bad}
+use Rattle.std.specs.Prelude.{Ok, Err}
 use Rattle.phrases.specs.Book.{book_phrases}
 use Rattle.phrases.specs.Lookup.{book_texts, book_answer, own_texts}
 use Rattle.phrases.proofs.Answers.{book-is}
 use Rattle.lines.specs.declared.Form.TheVariants.{Guide as a_guide}
-use Rattle.lines.specs.declared.Checked.TheVariants.{Fine, Refused}
+use Rattle.lines.specs.declared.Counts.{Counts}
 use Rattle.lines.specs.Check.{lines_of, Accepted, accept}
 use Rattle.lines.specs.Answers.{seen_in, checked_answer}
 use Rattle.check_lines.proofs.Answers.{accept-is}
@@ -38,19 +38,19 @@ use Rattle.translating.proofs.Skips.{block-fits}
 -- ---- the book and the guide
 
 module _ (g book : List ℕ) where
-  book-refused : (line : ℕ) → book_answer (book_phrases book) ≡ Bad line → translation book g ≡ refused Book line
+  book-refused : (r : Refusal) → book_answer (book_phrases book) ≡ Err r → translation book g ≡ refused r.cause r.place
   unfolding translation
-  book-refused line e = rw (book-is book e)
+  book-refused r e = rw (book-is book e)
 
   guide-refused : (r : Refusal) → book_phrases book ≡ made (book_texts book)
-      → checked_answer (seen_in a_guide (book_texts book) g) ≡ Refused r → translation book g ≡ refused r.cause r.place
+      → checked_answer (seen_in a_guide (book_texts book) g) ≡ Err r → translation book g ≡ refused r.cause r.place
   unfolding translation guide_of
   guide-refused r e f = rw (e, accept-is a_guide g (book_texts book) f)
 
   -- an accepted guide
-  module _ (own instructions : ℕ) (f : checked_answer (seen_in a_guide (book_texts book) g) ≡ Fine own instructions) where
+  module _ (k : Counts) (f : checked_answer (seen_in a_guide (book_texts book) g) ≡ Ok k) where
     abbrev held : Accepted
-    held = record { own = own_texts own g; lines = lines_of a_guide g }
+    held = record { own = own_texts k.own g; lines = lines_of a_guide g }
 
     accepted : accept a_guide (book_texts book) g ≡ made held
     accepted = accept-is a_guide g (book_texts book) f
@@ -82,19 +82,19 @@ module _ (g book : List ℕ) where
   -- ---- what the call leaves
 
   module _ (out : List ℕ) where
-    pub call-book : (line : ℕ) → book_answer (book_phrases book) ≡ Bad line → (refusing Book line, out) ≡ translate_call g book out
+    pub call-book : (r : Refusal) → book_answer (book_phrases book) ≡ Err r → (refusing r.cause r.place, out) ≡ translate_call g book out
     unfolding translate_call
-    call-book line e = rw (book-refused line e)
+    call-book r e = rw (book-refused r e)
 
     pub call-guide : (r : Refusal) → book_phrases book ≡ made (book_texts book)
-        → checked_answer (seen_in a_guide (book_texts book) g) ≡ Refused r → (refusing r.cause r.place, out) ≡ translate_call g book out
+        → checked_answer (seen_in a_guide (book_texts book) g) ≡ Err r → (refusing r.cause r.place, out) ≡ translate_call g book out
     unfolding translate_call
     call-guide r e f = rw (guide-refused r e f)
 
-    pub call-translated : (own instructions : ℕ) (y : Answer × List ℕ) → book_phrases book ≡ made (book_texts book)
-        → checked_answer (seen_in a_guide (book_texts book) g) ≡ Fine own instructions
+    pub call-translated : (k : Counts) (y : Answer × List ℕ) → book_phrases book ≡ made (book_texts book)
+        → checked_answer (seen_in a_guide (book_texts book) g) ≡ Ok k
         → y ≡ lent_program (book_texts book) (program_in a_guide (skip_table g) g 0) out → y ≡ translate_call g book out
     unfolding translate_call
-    call-translated own instructions y e f h =
-        rw (translated own instructions f e)
-        (h ∙ lent-within (book_texts book) (program_in a_guide (skip_table g) g 0) out (none-past own instructions f))
+    call-translated k y e f h =
+        rw (translated k f e)
+        (h ∙ lent-within (book_texts book) (program_in a_guide (skip_table g) g 0) out (none-past k f))

@@ -18,13 +18,7 @@ pub struct Length {
 fn is_if(role: Role) -> bool
     ensures { result ≡ if_by role }
 {
-    match role {
-        Role::Statement => false,
-        Role::If => true,
-        Role::Else => false,
-        Role::Fi => false,
-        Role::Nothing => false,
-    }
+    matches!(role, Role::If)
 }
 
 // The block that begins at a. The skips of its instructions are stored from the number `first` on.

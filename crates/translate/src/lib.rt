@@ -15,38 +15,28 @@ ghost use Rattle.causes.specs.Answers.{written_answer};
 ghost use Rattle.phrases.specs.Index.{CheckedBook};
 ghost use Rattle.translating.specs.Call.{translate_call};
 
-use causes::{Cause, Refusal, Written};
-use lines::{Checked, Form};
-use phrases::{BOOK_NUMBERS, Book, ENTRIES_AT};
+use causes::Written;
+use lines::Form;
+use phrases::{BOOK_NUMBERS, ENTRIES_AT};
 
 // The plate with a book that is checked.
 fn translate_with(guide: &[u8], index: &mut [u32], book: &[u8], plate: &mut [u8]) -> Written
     requires { CheckedBook 0 index.old book.now }
     ensures { (written_answer result, plate.new) ≡ translate_call guide.now book.now plate.old }
 {
-    match check_lines::check(Form::Guide, index, book, guide) {
-        Checked::Refused(r) => Written::Refused(r),
-        Checked::Fine {
-            own: _,
-            instructions,
-        } => passes::write(guide, index, book, instructions, plate),
-    }
+    let counts = check_lines::check(Form::Guide, index, book, guide)?;
+    passes::write(guide, index, book, counts.instructions, plate)
 }
 
 // A guide's plate is written into the lent buffer. The index of an empty book is short, so that a small guide clears little.
 pub fn translate(guide: &[u8], book: &[u8], plate: &mut [u8]) -> Written
     ensures { (written_answer result, plate.new) ≡ translate_call guide.now book.now plate.old }
 {
-    if book.len() == 0 {
+    if book.is_empty() {
         let mut index = [0u32; ENTRIES_AT];
         return translate_with(guide, &mut index, book, plate);
     }
     let mut index = [0u32; BOOK_NUMBERS];
-    match phrase_check::check_book(book, &mut index) {
-        Book::Bad(line) => Written::Refused(Refusal {
-            cause: Cause::Book,
-            place: line,
-        }),
-        Book::Holds(_) => translate_with(guide, &mut index, book, plate),
-    }
+    phrase_check::check_book(book, &mut index)?;
+    translate_with(guide, &mut index, book, plate)
 }

@@ -1,29 +1,26 @@
 -- The bytes that the code finds due, and the step over one byte.
-use Prim.Native.Nat.{ℕ, zero, suc, ◌+◌, ◌-◌, ◌≤◌, ◌<◌}
+use Prim.Native.Nat.{ℕ, zero, suc, ◌-◌, ◌≤◌}
 use mathlib.Core.Path.{◌≡◌, refl, sym, ap, ◌∙◌}
 use mathlib.Core.List.{List, [], ◌∷◌}
 use mathlib.Core.Bool.{true, false}
-use native.Mathlib.Numerals.{add-one}
 use native.Mathlib.Omega.{arith}
-use lib.ListN.{length, take, drop, get_or, replicate, take-append-drop, drop_of_length-le}
-use lib.Seq.{drop-cons, drop-drop}
+use lib.ListN.{length, drop, replicate, drop_of_length-le}
 use lib.Dec.{eqb, eqb-suc-zero}
-use Rattle.text.specs.Parts.{all}
-use Rattle.text.specs.Utf8.{Range, tail, within, letters, begins, letters_behind, well_formed, ascii, ◌to◌}
-use Rattle.utf8.specs.declared.Step.{Step}
-use Rattle.utf8.specs.declared.Step.TheVariants.{On, Wrong}
+use Rattle.text.specs.Utf8.{Range, tail, within, letters, begins, letters_behind, ◌to◌}
+use Rattle.std.specs.Prelude.{Option, Some, None}
+use Rattle.utf8.specs.declared.Due.{Due}
 use Rattle.utf8.specs.Due.{ranges, step_of, on_step}
-use Rattle.text.proofs.Letters.{on_begun, letters-first, well-ascii-front}
+use Rattle.text.proofs.Letters.{on_begun, letters-first}
 
 module _ (n least most b : ℕ) where
   -- nothing is due: a letter begins
-  pub step-begins : (r : Step) → n ≡ 0 → begins letters b ≡ step_of r → (s : List ℕ)
+  pub step-begins : (r : Option Due) → n ≡ 0 → begins letters b ≡ step_of r → (s : List ℕ)
       → letters_behind (ranges n least most) (b ∷ s) ≡ on_step r s
   step-begins r e h s = rw e (letters-first b s ∙ ap (λ o. on_begun o s) h ∙ go r)
     where
-      go : (r : Step) → on_begun (step_of r) s ≡ on_step r s
-      go (On d) = refl
-      go Wrong = refl
+      go : (r : Option Due) → on_begun (step_of r) s ≡ on_step r s
+      go (Some d) = refl
+      go None = refl
 
   pub step-wrong : (n ≡ 0 → ⊥) → within (least to most) b ≡ false → (s : List ℕ) → letters_behind (ranges n least most) (b ∷ s) ≡ false
   unfolding letters_behind
@@ -52,17 +49,5 @@ unfolding letters_behind
 step_end zero least most = refl
 step_end (suc n) least most = sym (eqb-suc-zero n)
 
-module _ (s : List ℕ) (i : ℕ) where
-  -- over the byte at i
-  pub step-over : (due : List Range) (r : Step) → i < length s
-      → ((t : List ℕ) → letters_behind due (get_or s i 0 ∷ t) ≡ on_step r t) → letters_behind due (drop i s) ≡ on_step r (drop (i + 1) s)
-  step-over due r h step = rw (add-one, drop-cons s i 0 h) (step (drop (suc i) s))
-
-  pub at-end : (due : List Range) → length s ≤ i → letters_behind due (drop i s) ≡ letters_behind due []
-  at-end due h = rw (drop_of_length-le s h)
-
-  -- past 16 bytes of ASCII
-  pub past_ascii : all ascii (take 16 (drop i s)) ≡ true → well_formed (drop i s) ≡ well_formed (drop (i + 16) s)
-  past_ascii h =
-      ap well_formed (sym (take-append-drop 16 (drop i s))) ∙ well-ascii-front (take 16 (drop i s)) (drop 16 (drop i s)) h
-      ∙ ap well_formed (drop-drop 16 i s)
+pub at-end : (s : List ℕ) (i : ℕ) (due : List Range) → length s ≤ i → letters_behind due (drop i s) ≡ letters_behind due []
+at-end s i due h = rw (drop_of_length-le s h)

@@ -1,7 +1,5 @@
 -- A checksum of one more byte, and the room for it.
-use Prim.Native.Nat.{ℕ, ◌+◌, ◌*◌, ◌%◌, ◌<◌, ◌≤◌}
-use native.Mathlib.Omega.{arith}
-use native.Mathlib.Nat.{mul-le-mul_right}
+use Prim.Native.Nat.{ℕ, ◌+◌, ◌*◌, ◌%◌, ◌<◌}
 use native.Mathlib.Numerals.{add-one}
 use mathlib.Core.Path.{◌≡◌}
 use mathlib.Core.List.{List, [], ◌∷◌, foldl-append}
@@ -14,7 +12,3 @@ pub sum_more : (factor modulus : ℕ) (bytes : List ℕ) (i : ℕ) → i < lengt
 unfolding sum_of
 sum_more factor modulus bytes i h =
     rw (add-one i, take-suc bytes i 0 h, foldl-append (λ (sum b : ℕ). (sum * factor + b + 1) % modulus) 0 (take i bytes) (get_or bytes i 0 ∷ []))
-
--- a sum below the modulus
-pub sum_room : (factor modulus sum : ℕ) → sum < modulus → sum * factor ≤ modulus * factor
-sum_room factor modulus sum h = mul-le-mul_right factor (omega arith)

@@ -1,12 +1,12 @@
 -- The content of a lent buffer before a call, made byte by byte.
-use Prim.Native.Nat.{ℕ, ◌+◌, ◌*◌, ◌/◌, ◌%◌, ◌<◌, ◌≤◌}
+use Prim.Native.Nat.{ℕ, ◌+◌, ◌*◌, ◌/◌, ◌%◌, ◌<◌}
 use native.Mathlib.Omega.{arith}
 use native.Mathlib.Nat.{div-add-mod', mul-add-mod_self_right}
 use native.Mathlib.Numerals.{add-one}
-use mathlib.Core.Path.{◌≡◌, sym, ap, ◌∙◌}
+use mathlib.Core.Path.{◌≡◌}
 use mathlib.Core.List.{List}
 use lib.ListN.{length, take, set}
-use lib.Seq.{take-suc-set, take_all}
+use lib.Seq.{take-suc-set}
 use Rattle.vectors.specs.Lent.{content}
 
 -- only the lowest byte of the place matters
@@ -20,7 +20,3 @@ pub content-more : (out : List ℕ) (i : ℕ) → i < length out → take i out 
     → take (i + 1) (set out i ((i % 256 * 7 + 13) % 256)) ≡ content (i + 1)
 unfolding content
 content-more out i h e = rw (add-one, take-suc-set, e, byte-mod)
-
--- the whole buffer
-pub content-all : (out : List ℕ) (i : ℕ) → length out ≤ i → i ≤ length out → take i out ≡ content i → out ≡ content (length out)
-content-all out i h k e = let n : i ≡ length out = omega arith in sym (take_all i out h) ∙ e ∙ ap content n

@@ -2,4 +2,3 @@ pub mod Places
 pub mod Signs
 pub mod Content
 pub mod Checksums
-pub mod Fronts

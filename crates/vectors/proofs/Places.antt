@@ -1,5 +1,6 @@
 -- Numbers and slices at a place of the input, by the parts from which the readers make them.
-use Prim.Native.Nat.{ℕ, ◌+◌, ◌*◌, ◌-◌, ◌<◌, ◌≤◌}
+use Rattle.std.proofs.Common.{ℕ, ◌+◌, ◌-◌, ◌<◌, ◌≤◌, ap, ◌⊎◌, inl, inr, Bor, Option, Some, None, MatchOption}
+use Rattle.std.specs.Option.{unwrap_or}
 use native.Mathlib.Omega.{arith}
 use mathlib.Core.Path.{◌≡◌, refl, sym, ◌∙◌}
 use mathlib.Core.List.{List, []}
@@ -8,18 +9,7 @@ use lib.ListN.{length, take, drop, length-drop}
 use lib.Seq.{take_all}
 use lib.Dec.{leb}
 use borrow.Author.Tests.{le-leb, lt-leb, leb-true, leb-false}
-use Rattle.vectors.specs.Input.{onward, pair_at, number_at, long_at, slice_at, slice_end}
-
--- a number of four bytes is two of two
-pub number-pairs : (s : List ℕ) (at low place high : ℕ) → low ≡ pair_at s at → place ≡ onward at 2 → high ≡ pair_at s place
-    → low + high * 65536 ≡ number_at s at
-unfolding number_at
-number-pairs s at low place high a b c = let e : onward (onward at 2) 1 ≡ onward at 3 = omega arith in rw (a, c, b, e) (omega arith)
-
--- a number of eight bytes is two of four
-pub long-numbers : (s : List ℕ) (at low place high : ℕ) → low ≡ number_at s at → place ≡ onward at 4 → high ≡ number_at s place
-    → low + high * 4294967296 ≡ long_at s at
-long-numbers s at low place high a b c = rw (a, c, b)
+use Rattle.vectors.specs.Input.{onward, number_at, slice_at, slice_end}
 
 -- a slice that goes past the end has no bytes
 pub slice-none : (s : List ℕ) (at : ℕ) → length s < slice_end s at → [] ≡ slice_at s at
@@ -41,3 +31,13 @@ pub slice-there : (s : List ℕ) (at : ℕ) → slice_end s at ≤ length s → 
     → take (slice_end s at - onward at 4) (drop (onward at 4) s) ≡ slice_at s at
 unfolding slice_at
 slice-there s at h l = rw (le-leb (slice_end s at) (length s) h) (take-onward s (onward at 4) (number_at s at) (omega arith) l)
+
+-- what `get` finds between the length and the end, or nothing
+pub slice-got : (s : List ℕ) (at from end : ℕ) (got : Option (Bor (List ℕ))) (none some : Bor (List ℕ)) → from ≡ onward at 4
+    → end ≡ slice_end s at → length s ≤ 18446744073709551615 → MatchOption got ((end < from) ⊎ (length s < end)) (λ x. (from ≤ end) × (end ≤ length s) × (x.now ≡ take (end - from) (drop from s)) × (length x.now + from ≡ end))
+    → some ≡ unwrap_or got none → none.now ≡ [] → some.now ≡ slice_at s at
+slice-got s at from end None none some f e l h u n =
+    let past : length s < slice_end s at = elim h [ inl k ↦ omega arith | inr k ↦ omega arith ] in
+    ap (λ (b : Bor (List ℕ)). b.now) u ∙ n ∙ slice-none s at past
+slice-got s at from end (Some x) none some f e l h u n =
+    ap (λ (b : Bor (List ℕ)). b.now) u ∙ rw (f, e) at h.2 ∙ slice-there s at (omega arith) l

@@ -1,21 +1,20 @@
 -- A number of 32 bits with its sign, by its bits.
-use Prim.Native.Nat.{ℕ, suc, ◌-◌, ◌^◌, ◌<◌, ◌≤◌}
-use native.Mathlib.Omega.{arith}
-use mathlib.Core.Path.{◌≡◌}
+use Rattle.std.proofs.Common.{ℕ, suc, ◌-◌, ◌^◌, ◌<◌, ◌≡◌, ap, ◌∙◌, refl, arith, Bool, true, false, cond, pos, negsuc}
+use Rattle.std.proofs.Math.Facts.{to_z_pos, to_z-neg}
 use mir.Syntax.{w32}
 use mir.Val.{to_z, bits}
-use mir.Facts.{to_z-neg}
-use borrow.Author.Tests.{lt-ltb, le-ltb}
+use lib.Dec.{ltb}
+use borrow.Author.Tests.{ltb-true, ltb-false}
 use Rattle.vectors.specs.Input.{signed_of}
 
--- the bits of a number from 0 on
-pub signed-plain : (n : ℕ) → n < 2147483648 → to_z w32 n ≡ signed_of n
+-- the lower half of the numbers is from 0 on, the upper half below 0
+pub signed-bits : (n : ℕ) → n < 4294967296 → to_z w32 n ≡ signed_of n
 unfolding signed_of
-signed-plain n h = rw (lt-ltb n 2147483648 h)
-
--- the complement of a complement, which is a number below 0
-pub signed_below : (n : ℕ) → 2147483648 ≤ n → n < 4294967296 → to_z w32 (4294967295 - (4294967295 - n)) ≡ signed_of n
-unfolding signed_of
-signed_below n h k =
-    let e : 4294967295 - (4294967295 - n) ≡ 2 ^ bits w32 - suc (4294967295 - n) = omega arith in
-    rw (le-ltb n 2147483648 h, e) (to_z-neg w32 (4294967295 - n) (omega arith))
+signed-bits n h = go (ltb n 2147483648) refl
+  where
+    go : (b : Bool) → ltb n 2147483648 ≡ b → to_z w32 n ≡ cond b (pos n) (negsuc (4294967295 - n))
+    go true e = let k = ltb-true n 2147483648 e in to_z_pos w32 (omega arith)
+    go false e =
+        let k = ltb-false n 2147483648 e in
+        let m : n ≡ 2 ^ bits w32 - suc (4294967295 - n) = omega arith in
+        ap (to_z w32) m ∙ to_z-neg w32 (4294967295 - n) (omega arith)

@@ -9,10 +9,6 @@ onward at count = min (at + count) 18446744073709551615
 abbrev pub byte_at : List ℕ → ℕ → ℕ
 byte_at s at = get_or s at 0
 
--- the number of two bytes, the lowest first
-abbrev pub pair_at : List ℕ → ℕ → ℕ
-pair_at s at = byte_at s at + byte_at s (onward at 1) * 256
-
 -- the number of four bytes, the lowest first
 unfoldable pub number_at : List ℕ → ℕ → ℕ
 number_at s at =

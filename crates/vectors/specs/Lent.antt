@@ -1,8 +1,8 @@
 -- How many bytes a case lends, and what they hold before a call.
 use Rattle.std.specs.Prelude.{ℕ, zero, suc, ◌+◌, ◌*◌, ◌%◌, min, List, [], ◌∷◌, ◌++◌, length}
 
--- how many bytes of a space are lent: as many as a case says, at most all
-abbrev pub lent_of : List ℕ → ℕ → ℕ
+-- how many elements of a space are lent: as many as a case says, at most all
+abbrev pub lent_of : {A : Type 0} → List A → ℕ → ℕ
 lent_of space count = min count (length space)
 
 -- the content of a lent buffer of a length before a call

@@ -6,26 +6,20 @@ ghost use Rattle.vectors.specs.Front.{Front};
 ghost use Rattle.vectors.specs.Lent.{content, lent_of};
 ghost use Rattle.vectors.specs.Sums.{sum_of, buffer_text};
 
-// How many bytes of `space` are lent: as many as a case says, at most all. Callers lend them by the second clause.
-pub fn lent(space: &[u8], length: usize) -> usize
+// How many elements of `space` are lent: as many as a case says, at most all. Callers lend them by the second clause.
+pub fn lent<T>(space: &[T], length: usize) -> usize
     ensures value { result ≡ lent_of space.now length }
     ensures prefix_len { Front result space.now }
 {
-    if length < space.len() {
-        length
-    } else {
-        space.len()
-    }
+    length.min(space.len())
 }
 
 // The content of a lent buffer before a call: byte i is (i * 7 + 13) mod 256.
 pub fn fill(out: &mut [u8])
     ensures { out.new ≡ content (length out.old) }
 {
-    let mut i = 0;
-    while i < out.len() {
-        out[i] = ((i % 256 * 7 + 13) % 256) as u8;
-        i += 1;
+    for (i, byte) in out.iter_mut().enumerate() {
+        *byte = ((i % 256 * 7 + 13) % 256) as u8;
     }
 }
 
@@ -36,10 +30,8 @@ fn sum(bytes: &[u8], factor: usize, modulus: usize) -> usize
     ensures { result ≡ sum_of factor modulus bytes.now }
 {
     let mut sum = 0;
-    let mut i = 0;
-    while i < bytes.len() {
-        sum = (sum * factor + bytes[i] as usize + 1) % modulus;
-        i += 1;
+    for byte in bytes {
+        sum = (sum * factor + *byte as usize + 1) % modulus;
     }
     sum
 }

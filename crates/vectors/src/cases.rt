@@ -4,108 +4,115 @@
 // the line. What does not fit its space, or stands past the input's end, is left out, and the lines then differ.
 // In vectors_call the number of the call stands before a case, in vectors_agree nothing. Behind the book stand the answers of a walk, and
 // the answers and the scratch length of a run.
+ghost use Rattle.std.specs.Prelude.{IfSome};
 ghost use Rattle.vectors.specs.Front.{Front, Fronts};
 
+use crate::buffer::{fill, lent};
 use crate::reading::read_full;
+use crate::spaces::{ANSWERS, BOOK, INPUT, lent_space};
+use std::io;
 use std::io::Read;
 
-// A number of the input, or its end.
-#[derive(Clone, Copy)]
-enum Number {
-    Is(usize),
-    Ends,
-}
+// More cases than any input of a vector program has.
+const MOST_CASES: usize = 1000000;
 
-// What every case has: whether there is one, the lengths of its lent output, of its guide, listing or plate, and of its book.
-#[derive(Clone, Copy)]
+// What every case has: the lengths of its lent output, of its guide, listing or plate, and of its book.
+#[derive(Clone, Copy, Debug, PartialEq, Eq)]
 pub struct Case {
-    pub more: bool,
     pub lent: usize,
     pub input: usize,
     pub book: usize,
 }
 
-// The number of the next four bytes, the lowest first.
-fn read_number<R: Read>(from: &mut R) -> Number {
+// The number of the next four bytes, the lowest first; none where the input ends.
+pub fn read_number<R: Read>(from: &mut R) -> Option<usize> {
     let mut bytes = [0; 4];
     if read_full(from, &mut bytes) < 4 {
-        return Number::Ends;
+        return None;
     }
-    Number::Is(crate::input::number(&bytes, 0))
+    Some(u32::from_le_bytes(bytes) as usize)
 }
 
-// The same, 0 at the end.
-fn number_or_zero<R: Read>(from: &mut R) -> usize {
-    match read_number(from) {
-        Number::Is(n) => n,
-        Number::Ends => 0,
-    }
+// How many elements of a space the next number asks for, at most all; 0 at the end.
+fn read_lent<R: Read, T>(from: &mut R, space: &[T]) -> usize
+    ensures { Front result space.now }
+{
+    lent(space, read_number(from).unwrap_or(0))
 }
 
 // The next slice, behind its length: its bytes at the front of `space`, and how many they are.
 fn read_slice<R: Read>(from: &mut R, space: &mut [u8]) -> usize
     ensures { Front result space.new }
 {
-    let length = crate::buffer::lent(space, number_or_zero(from));
+    let length = read_lent(from, space);
     read_full(from, &mut space[..length])
 }
 
 // The next case up to its book, each part at the front of its space. The lent output has the content that it has before a call.
-pub fn read_case<R: Read>(from: &mut R, input: &mut [u8], book: &mut [u8], out: &mut [u8]) -> Case
-    ensures { Fronts result input.new book.new out.new }
+pub fn read_case<R: Read>(
+    from: &mut R,
+    input: &mut [u8],
+    book: &mut [u8],
+    out: &mut [u8],
+) -> Option<Case>
+    ensures { IfSome result (λ c. Fronts c input.new book.new out.new) }
 {
-    let Number::Is(length) = read_number(from) else {
-        return Case {
-            more: false,
-            lent: 0,
-            input: 0,
-            book: 0,
-        };
-    };
-    let lent = crate::buffer::lent(out, length);
-    crate::buffer::fill(&mut out[..lent]);
-    let first = read_slice(from, input);
-    let second = read_slice(from, book);
-    Case {
-        more: true,
+    let lent = lent(out, read_number(from)?);
+    fill(&mut out[..lent]);
+    Some(Case {
         lent,
-        input: first,
-        book: second,
-    }
+        input: read_slice(from, input),
+        book: read_slice(from, book),
+    })
 }
 
 // The answers of a case, behind their count, at the front of `space`; and how many they are.
 pub fn read_answers<R: Read>(from: &mut R, space: &mut [i32]) -> usize
     ensures { Front result space.new }
 {
-    let count = number_or_zero(from);
-    let mut i = 0;
-    while i < count {
-        if space.len() <= i {
-            return i;
-        }
-        let answer = signed(from);
-        space[i] = answer;
-        i += 1;
+    let count = read_lent(from, space);
+    for answer in space[..count].iter_mut() {
+        let mut bytes = [0; 4];
+        read_full(from, &mut bytes);
+        *answer = i32::from_le_bytes(bytes);
     }
-    i
-}
-
-// The next number with its sign, in two's complement.
-fn signed<R: Read>(from: &mut R) -> i32 {
-    let mut bytes = [0; 4];
-    read_full(from, &mut bytes);
-    crate::input::signed(&bytes, 0)
+    count
 }
 
 // How many numbers of scratch a case lends, at most all of `space`.
 pub fn read_scratch<R: Read>(from: &mut R, space: &[u16]) -> usize
     ensures { Front result space.now }
 {
-    let count = number_or_zero(from);
-    if count < space.len() {
-        count
-    } else {
-        space.len()
+    read_lent(from, space)
+}
+
+// All cases: `case` is lent the spaces of a guide, listing or plate, a book, answers and an output, and answers whether there was one more.
+pub fn each_case<F: FnMut(&mut [u8], &mut [u8], &mut [i32], &mut [u8]) -> io::Result<bool>>(
+    case: F,
+) -> io::Result<()>
+    requires { F.IsAlwaysCallable case }
+{
+    let mut input = [0; INPUT];
+    let mut book = [0; BOOK];
+    let mut answers = [0; ANSWERS];
+    let mut out = lent_space();
+    each_in(&mut input, &mut book, &mut answers, &mut out, case)
+}
+
+// The same in these spaces.
+fn each_in<F: FnMut(&mut [u8], &mut [u8], &mut [i32], &mut [u8]) -> io::Result<bool>>(
+    input: &mut [u8],
+    book: &mut [u8],
+    answers: &mut [i32],
+    out: &mut [u8],
+    mut case: F,
+) -> io::Result<()>
+    requires { F.IsAlwaysCallable case }
+{
+    for _ in 0..MOST_CASES {
+        if !case(input, book, answers, out)? {
+            break;
+        }
     }
+    Ok(())
 }

@@ -1,85 +1,79 @@
 // Numbers and slices at a place of the input of a vector program. model/README.md has the format.
 // What stands past the input's end counts as 0 or as empty, and a place past the end is a place too. So a program that is given an
-// input that ends inside a case needs no test of its own.
+// input that ends inside a case needs no test of its own. A place so many bytes on is at most the greatest number (`saturating_add`).
 ghost use Rattle.std.specs.Prelude.{◌≡◌, ◌<◌};
-ghost use Rattle.vectors.specs.Input.{onward, byte_at, pair_at, number_at, long_at, signed_of, slice_at, slice_end};
+ghost use Rattle.vectors.specs.Input.{byte_at, number_at, long_at, signed_of, slice_at, slice_end};
 
-// The place so many bytes on, at most the greatest number.
-pub fn past(at: usize, count: usize) -> usize
-    ensures { result ≡ onward at count }
-{
-    if at <= 18446744073709551615 - count {
-        at + count
-    } else {
-        18446744073709551615
-    }
-}
+use std::io;
 
 // The byte at a place.
 pub fn byte(s: &[u8], at: usize) -> u8
     ensures { result ≡ byte_at s.now at }
 {
-    if at < s.len() { s[at] } else { 0 }
-}
-
-// The same as a number.
-fn wide(s: &[u8], at: usize) -> usize
-    ensures value { result ≡ byte_at s.now at }
-    ensures upper_bound { result < 256 }
-{
-    byte(s, at) as usize
-}
-
-// The number of two bytes at a place, the lowest first.
-fn pair(s: &[u8], at: usize) -> usize
-    ensures value { result ≡ pair_at s.now at }
-    ensures upper_bound { result < 65536 }
-{
-    wide(s, at) + wide(s, past(at, 1)) * 256
+    s.get(at).copied().unwrap_or(0)
 }
 
 // The number of four bytes at a place, the lowest first.
+fn word(s: &[u8], at: usize) -> u32
+    ensures { result ≡ number_at s.now at }
+{
+    u32::from_le_bytes([
+        byte(s, at),
+        byte(s, at.saturating_add(1)),
+        byte(s, at.saturating_add(2)),
+        byte(s, at.saturating_add(3)),
+    ])
+}
+
+// The same, to count by.
 pub fn number(s: &[u8], at: usize) -> usize
     ensures value { result ≡ number_at s.now at }
     ensures upper_bound { result < 4294967296 }
 {
-    pair(s, at) + pair(s, past(at, 2)) * 65536
+    word(s, at) as usize
 }
 
 // The number of eight bytes at a place, the lowest first.
 pub fn long_number(s: &[u8], at: usize) -> usize
     ensures { result ≡ long_at s.now at }
 {
-    number(s, at) + number(s, past(at, 4)) * 4294967296
+    number(s, at) + number(s, at.saturating_add(4)) * 4294967296
 }
 
 // The number of four bytes at a place, with its sign in two's complement.
 pub fn signed(s: &[u8], at: usize) -> i32
     ensures { result ≡ signed_of (number_at s.now at) }
 {
-    let n = number(s, at);
-    if n < 2147483648 {
-        n as i32
-    } else {
-        !((4294967295 - n) as i32)
-    }
+    word(s, at).cast_signed()
 }
 
 // The bytes of a slice at a place, behind their length.
 pub fn slice(s: &[u8], at: usize) -> &[u8]
     ensures { result.now ≡ slice_at s.now at }
 {
-    let from = past(at, 4);
-    let end = past(from, number(s, at));
-    if s.len() < end {
-        return &s[..0];
-    }
-    &s[from..end]
+    s.get(at.saturating_add(4)..past_slice(s, at))
+        .unwrap_or(&[])
 }
 
 // The place behind a slice.
 pub fn past_slice(s: &[u8], at: usize) -> usize
     ensures { result ≡ slice_end s.now at }
 {
-    past(past(at, 4), number(s, at))
+    at.saturating_add(4).saturating_add(number(s, at))
+}
+
+// Steps through the input from its front: a step is given a place, and answers the place behind what it took. The last one comes to the
+// input's end, or does not go on.
+pub fn each_place<F: FnMut(usize) -> io::Result<usize>>(s: &[u8], mut step: F) -> io::Result<()>
+    requires { F.IsAlwaysCallable step }
+{
+    let mut at = 0;
+    while at < s.len() {
+        let next = step(at)?;
+        if next <= at {
+            break;
+        }
+        at = next;
+    }
+    Ok(())
 }

@@ -8,34 +8,26 @@ ghost use Rattle.vectors.specs.Lines.{values, lent_end, written_line, ran_line};
 
 use crate::buffer::put_buffer;
 use causes::{Ran, Refusal, Report, Written};
-use printed::put_labelled;
+use printed::{front, put_labelled};
+use std::io;
 
 // N,NUMBER,PLACE
 fn put_refused(out: &mut [u8], at: usize, r: Refusal) -> usize
     ensures { (result, out.new) ≡ poured at (values (refusing r.cause r.place)) out.old }
 {
-    let cause = r.cause;
-    let place = r.place;
-    let number = causes::number_of(cause);
-    let end = put_labelled(out, at, b"N,", number as usize);
-    put_labelled(out, end, b",", place)
+    let end = put_labelled(out, at, b"N,", u32::from(r.cause) as usize);
+    put_labelled(out, end, b",", r.place)
 }
 
 // Y,LENGTH,OUTCOME,TAKEN,STEPS,WRONG
 fn put_report(out: &mut [u8], at: usize, r: Report) -> usize
     ensures { (result, out.new) ≡ poured at (values (ended r.length (outcome_number r.outcome) r.taken r.steps (wrong_answers r.outcome))) out.old }
 {
-    let length = r.length;
-    let outcome = r.outcome;
-    let taken = r.taken;
-    let steps = r.steps;
-    let number = causes::outcome_of(outcome);
-    let wrong = causes::wrong_of(outcome);
-    let end = put_labelled(out, at, b"Y,", length);
-    let end = put_labelled(out, end, b",", number as usize);
-    let end = put_labelled(out, end, b",", taken);
-    let end = put_labelled(out, end, b",", steps);
-    put_labelled(out, end, b",", wrong as usize)
+    let end = put_labelled(out, at, b"Y,", r.length);
+    let end = put_labelled(out, end, b",", u32::from(r.outcome) as usize);
+    let end = put_labelled(out, end, b",", r.taken);
+    let end = put_labelled(out, end, b",", r.steps);
+    put_labelled(out, end, b",", r.outcome.wrong() as usize)
 }
 
 // The values of an answer of translate, write_plate or read_plate.
@@ -43,8 +35,8 @@ fn put_written_values(out: &mut [u8], at: usize, answer: Written) -> usize
     ensures { (result, out.new) ≡ poured at (values (written_answer answer)) out.old }
 {
     match answer {
-        Written::Done(n) => put_labelled(out, at, b"Y,", n),
-        Written::Refused(r) => put_refused(out, at, r),
+        Ok(n) => put_labelled(out, at, b"Y,", n),
+        Err(r) => put_refused(out, at, r),
     }
 }
 
@@ -53,8 +45,8 @@ fn put_ran_values(out: &mut [u8], at: usize, answer: Ran) -> usize
     ensures { (result, out.new) ≡ poured at (values (ran_answer answer)) out.old }
 {
     match answer {
-        Ran::Done(r) => put_report(out, at, r),
-        Ran::Refused(r) => put_refused(out, at, r),
+        Ok(r) => put_report(out, at, r),
+        Err(r) => put_refused(out, at, r),
     }
 }
 
@@ -81,4 +73,13 @@ pub fn put_ran(out: &mut [u8], at: usize, answer: Ran, lent: &[u8]) -> usize
 {
     let end = put_ran_values(out, at, answer);
     put_lent(out, end, lent)
+}
+
+// Prints a line of a call's case, which has fewer than 256 bytes: `put` fills it, and answers where it ends.
+pub fn print_line<F: FnOnce(&mut [u8]) -> usize>(rt: &impl Print, put: F) -> io::Result<()>
+    requires { F.IsAlwaysCallable put }
+{
+    let mut line = [0; 256];
+    let end = put(&mut line);
+    rt.write_all(front(&line, end))
 }

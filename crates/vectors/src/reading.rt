@@ -10,13 +10,8 @@ pub fn read_full<R: Read>(from: &mut R, space: &mut [u8]) -> usize
     let mut done = 0;
     while done < space.len() {
         match from.read(&mut space[done..]) {
-            Ok(more) => {
-                if more == 0 {
-                    return done;
-                }
-                done += more;
-            }
-            Err(_) => return done,
+            Ok(0) | Err(_) => break,
+            Ok(more) => done += more,
         }
     }
     done

@@ -1,44 +1,26 @@
-// The spaces of the vector programs, all zeros: for a whole input, or for each part of a case. model/README.md has the sizes.
-ghost use Rattle.std.specs.Prelude.{◌≡◌, replicate, pos};
+// The spaces of the vector programs: for a whole input, or for each part of a case. model/README.md has the sizes.
+ghost use Rattle.std.specs.Prelude.{◌≡◌, replicate};
 
-// For all cases of an input of up to 300,000 bytes.
-pub fn cases_space() -> [u8; 300000]
-    ensures { result ≡ replicate 300000 0 }
-{
-    [0; 300000]
-}
+// For all cases of an input.
+pub const CASES: usize = 300000;
 
-// For a guide, a listing or a plate of up to 327,681 bytes.
-pub fn input_space() -> [u8; 327681]
-    ensures { result ≡ replicate 327681 0 }
-{
-    [0; 327681]
-}
+// For a guide, a listing or a plate.
+pub const INPUT: usize = 327681;
 
-// For a book of up to 20,000 bytes.
-pub fn book_space() -> [u8; 20000]
-    ensures { result ≡ replicate 20000 0 }
-{
-    [0; 20000]
-}
+pub const BOOK: usize = 20000;
 
-// For a lent output of up to 918,016 bytes, the longest transcript.
-pub fn lent_space() -> [u8; 918016]
+pub const ANSWERS: usize = 1536;
+
+// For numbers of scratch.
+pub const SCRATCH: usize = 600;
+
+// For the longest transcript.
+pub const LENT: usize = 918016;
+
+// For a lent output; all zeros. An array of this length is made in a function of its own, so that a proof about what is done with it does
+// not go over its elements.
+pub fn lent_space() -> [u8; LENT]
     ensures { result ≡ replicate 918016 0 }
 {
-    [0; 918016]
-}
-
-// For up to 1,536 answers.
-pub fn answers_space() -> [i32; 1536]
-    ensures { result ≡ replicate 1536 (pos 0) }
-{
-    [0; 1536]
-}
-
-// For up to 600 numbers of scratch.
-pub fn scratch_space() -> [u16; 600]
-    ensures { result ≡ replicate 600 0 }
-{
-    [0; 600]
+    [0; LENT]
 }

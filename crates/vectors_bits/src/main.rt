@@ -4,7 +4,6 @@
 
 ghost use Rattle.std.specs.Prelude.{◌≤◌};
 
-use bits::{Number, Wide};
 use printed::front;
 use std::io;
 
@@ -19,8 +18,8 @@ fn read_number(line: &mut [u8], bytes: &[u8], place: usize, width: usize) -> usi
     requires { width ≤ 32 }
 {
     match bits_in::read_number(bytes, place, width) {
-        Number::Is(value) => put_value(line, value as usize),
-        Number::Ends => text_out::put(line, 0, b"N\n"),
+        Some(value) => put_value(line, value as usize),
+        None => text_out::put(line, 0, b"N\n"),
     }
 }
 
@@ -29,7 +28,7 @@ fn read_case(line: &mut [u8], s: &[u8], start: usize) -> usize {
     let bytes = vectors::slice(s, start);
     let at = vectors::past_slice(s, start);
     let place = vectors::long_number(s, at);
-    let width = vectors::number(s, vectors::past(at, 8));
+    let width = vectors::number(s, at.saturating_add(8));
     if 32 < width {
         return 0;
     }
@@ -41,8 +40,8 @@ fn eight_case(line: &mut [u8], s: &[u8], start: usize) -> usize {
     let bytes = vectors::slice(s, start);
     let place = vectors::long_number(s, vectors::past_slice(s, start));
     match bits_in::read_eight(bytes, place) {
-        Wide::Is(value) => put_value(line, value),
-        Wide::Short => text_out::put(line, 0, b"N\n"),
+        Some(value) => put_value(line, value),
+        None => text_out::put(line, 0, b"N\n"),
     }
 }
 
@@ -61,9 +60,9 @@ fn write_number(line: &mut [u8], out: &mut [u8], place: usize, width: usize, val
 // A case that writes, into the bytes of `space` that it lends.
 fn write_case(line: &mut [u8], s: &[u8], at: usize, space: &mut [u8]) -> usize {
     let length = vectors::lent(space, vectors::number(s, at));
-    let place = vectors::long_number(s, vectors::past(at, 4));
-    let width = vectors::number(s, vectors::past(at, 12));
-    let value = vectors::long_number(s, vectors::past(at, 16));
+    let place = vectors::long_number(s, at.saturating_add(4));
+    let width = vectors::number(s, at.saturating_add(12));
+    let value = vectors::long_number(s, at.saturating_add(16));
     if 56 < width {
         return 0;
     }
@@ -82,31 +81,25 @@ fn case(line: &mut [u8], s: &[u8], kind: usize, at: usize, space: &mut [u8]) -> 
 // The place behind a case.
 fn behind(s: &[u8], kind: usize, at: usize) -> usize {
     match kind {
-        0 => vectors::past(vectors::past_slice(s, at), 12),
-        2 => vectors::past(vectors::past_slice(s, at), 8),
-        _ => vectors::past(at, 24),
+        0 => vectors::past_slice(s, at).saturating_add(12),
+        2 => vectors::past_slice(s, at).saturating_add(8),
+        _ => at.saturating_add(24),
     }
 }
 
 // All cases, up to the end of what was read.
 fn cases(rt: &impl Print, s: &[u8], space: &mut [u8], line: &mut [u8]) -> io::Result<()> {
-    let mut at = 0;
-    while at < s.len() {
+    vectors::each_place(s, |at| {
         let kind = vectors::number(s, at);
-        let first = vectors::past(at, 4);
+        let first = at.saturating_add(4);
         let end = case(line, s, kind, first, space);
         rt.write_all(front(line, end))?;
-        let next = behind(s, kind, first);
-        if next <= at {
-            break;
-        }
-        at = next;
-    }
-    Ok(())
+        Ok(behind(s, kind, first))
+    })
 }
 
 fn main(rt: HostRuntime) -> io::Result<()> {
-    let mut input = vectors::cases_space();
+    let mut input = [0; vectors::CASES];
     let mut space = [0; 4096];
     let mut line = [0; 4096];
     let count = vectors::read_full(&mut rt.stdin(), &mut input);

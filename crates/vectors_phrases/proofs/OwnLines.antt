@@ -13,7 +13,7 @@ use Rattle.phrases.specs.Index.{Indexed}
 use Rattle.phrases.specs.Own.{own_number, own_text, OwnAt, OwnNumbers}
 use Rattle.phrases.proofs.Texts.{own-texts-more}
 use Rattle.phrases.proofs.Entries.{indexed-count}
-use Rattle.phrases.proofs.OwnEntries.{own-none, index_kept, own-more}
+use Rattle.phrases.proofs.OwnEntries.{own-there, own-none, index_kept, own-more}
 
 -- the first k lines have their numbers, and line k starts at a
 pub record Lines (book own first index : List ℕ) (k a : ℕ) : Type 0 where
@@ -53,15 +53,8 @@ module _ {book own first index : List ℕ} {k a : ℕ} (l : Lines book own first
       own_at : OwnAt last book own k
       own_at =
           let n : 129 + length (book_texts book) + k < length index = omega (arith, p, indexed-count index book l.indexed) in
-          record {
-            room = simp length-set n;
-            at = start;
-            near = s.0;
-            short = rw text-is s.1;
-            inside = rw text-is s.2;
-            stands = rw text-is s.3;
-            number = get_or-set_same index (129 + length (book_texts book) + k) _ 0 n ∙ ap (own_number start) (sym text-is);
-          }
+          own-there last book own k start (simp length-set n) s.0 (rw text-is s.1) (rw text-is s.2) (rw text-is s.3)
+          (get_or-set_same index (129 + length (book_texts book) + k) _ 0 n ∙ ap (own_number start) (sym text-is))
 
       more : Lines book own first last (suc k) (e + 1)
       more =

@@ -11,7 +11,7 @@ mod own;
 
 use crate::own::enter_lines;
 use phrase_lookup::phrase_text;
-use phrases::{Book, Found};
+use phrases::Found;
 use printed::{front, put_labelled, put_pairs};
 use std::io;
 
@@ -19,8 +19,8 @@ use std::io;
 fn check(line: &mut [u8], s: &[u8], at: usize) -> usize {
     let mut index = [0u32; 449];
     match phrase_check::check_book(vectors::slice(s, at), &mut index) {
-        Book::Holds(count) => put_labelled(line, 0, b"Y,", count),
-        Book::Bad(bad) => put_labelled(line, 0, b"N,", bad),
+        Ok(count) => put_labelled(line, 0, b"Y,", count),
+        Err(r) => put_labelled(line, 0, b"N,", r.place),
     }
 }
 
@@ -36,11 +36,11 @@ fn find(line: &mut [u8], s: &[u8], at: usize) -> usize {
     let second = vectors::past_slice(s, at);
     let third = vectors::past_slice(s, second);
     let count = vectors::long_number(s, third);
-    let text = vectors::slice(s, vectors::past(third, 8));
+    let text = vectors::slice(s, third.saturating_add(8));
     let book = vectors::slice(s, at);
     match phrase_check::check_book(book, &mut index) {
-        Book::Bad(bad) => put_labelled(line, 0, b"N,", bad),
-        Book::Holds(_) => found(
+        Err(r) => put_labelled(line, 0, b"N,", r.place),
+        Ok(_) => found(
             line,
             &mut index,
             book,
@@ -64,9 +64,9 @@ fn found(
 {
     let n = enter_lines(index, book, own, count);
     match phrase_lookup::find_phrase(index, book, own, n, text) {
-        Found::InBook(i) => place(line, 0, i),
-        Found::InOwn(i) => place(line, 1, i),
-        Found::Nowhere => text_out::put_byte(line, 0, b'N'),
+        Some(Found::InBook(i)) => place(line, 0, i),
+        Some(Found::InOwn(i)) => place(line, 1, i),
+        None => text_out::put_byte(line, 0, b'N'),
     }
 }
 
@@ -82,16 +82,13 @@ fn text_at<'a>(
 ) -> usize
     requires { Indexed index.now book.now × OwnNumbers index.now book.now own.now n }
 {
-    if is_own {
-        if i < n {
-            return put_pairs(line, 0, phrase_text(index, book, own, true, i));
-        }
-        return 0;
+    if is_own && i < n {
+        put_pairs(line, 0, phrase_text(index, book, own, true, i))
+    } else if !is_own && i < phrases::count_of(index) {
+        put_pairs(line, 0, phrase_text(index, book, own, false, i))
+    } else {
+        0
     }
-    if i < phrases::count_of(index) {
-        return put_pairs(line, 0, phrase_text(index, book, own, false, i));
-    }
-    0
 }
 
 // The text of a phrase, empty where there is none at the place.
@@ -100,12 +97,12 @@ fn text(line: &mut [u8], s: &[u8], at: usize) -> usize {
     let second = vectors::past_slice(s, at);
     let third = vectors::past_slice(s, second);
     let is_own = vectors::number(s, third) == 1;
-    let i = vectors::long_number(s, vectors::past(third, 4));
+    let i = vectors::long_number(s, third.saturating_add(4));
     let book = vectors::slice(s, at);
     let own = vectors::slice(s, second);
     match phrase_check::check_book(book, &mut index) {
-        Book::Bad(bad) => put_labelled(line, 0, b"N,", bad),
-        Book::Holds(_) => {
+        Err(r) => put_labelled(line, 0, b"N,", r.place),
+        Ok(_) => {
             let n = enter_lines(&mut index, book, own, 64);
             text_at(line, &index, book, own, n, is_own, i)
         }
@@ -140,33 +137,27 @@ fn past_two(s: &[u8], at: usize) -> usize {
 fn behind(s: &[u8], kind: usize, at: usize) -> usize {
     match kind {
         0 => vectors::past_slice(s, at),
-        1 => vectors::past_slice(s, vectors::past(past_two(s, at), 8)),
-        2 => vectors::past(past_two(s, at), 12),
-        _ => vectors::past(at, 4),
+        1 => vectors::past_slice(s, past_two(s, at).saturating_add(8)),
+        2 => past_two(s, at).saturating_add(12),
+        _ => at.saturating_add(4),
     }
 }
 
 // All cases, up to the end of what was read.
 fn cases(rt: &impl Print, s: &[u8], line: &mut [u8]) -> io::Result<()> {
-    let mut at = 0;
-    while at < s.len() {
+    vectors::each_place(s, |at| {
         let kind = vectors::number(s, at);
-        let first = vectors::past(at, 4);
+        let first = at.saturating_add(4);
         let end = case(line, s, kind, first);
         let end = text_out::put_byte(line, end, b'\n');
         rt.write_all(front(line, end))?;
-        let next = behind(s, kind, first);
-        if next <= at {
-            break;
-        }
-        at = next;
-    }
-    Ok(())
+        Ok(behind(s, kind, first))
+    })
 }
 
 // The longest line has 129 bytes. A longer one than the buffer would be cut off, and differ.
 fn main(rt: HostRuntime) -> io::Result<()> {
-    let mut input = vectors::cases_space();
+    let mut input = [0; vectors::CASES];
     let mut line = [0; 65536];
     let count = vectors::read_full(&mut rt.stdin(), &mut input);
     cases(&rt, &input[..count], &mut line)

@@ -12,21 +12,15 @@ fn enter_at(index: &mut [u32], own: &[u8], k: usize, start: usize, text: &[u8]) 
     ensures index_after { result ≡ true → index.new ≡ set index.old (entries_at + get_or index.old 0 0 + k) (own_number start text.now) }
     ensures start_lt_own_places { result ≡ true → (start < own_places) × (length text.now < own_sizes) × (start + length text.now ≤ length own.now) × (take (length text.now) (drop start own.now) ≡ text.now) }
 {
-    if OWN_PLACES <= start {
-        return false;
-    }
-    if OWN_SIZES <= text.len() {
+    if OWN_PLACES <= start || OWN_SIZES <= text.len() {
         return false;
     }
     let end = start + text.len();
-    if own.len() < end {
+    if own.len() < end || &own[start..end] != text {
         return false;
     }
-    if text_parts::same(&own[start..end], text) {
-        phrase_lookup::enter_own(index, k, start, text);
-        return true;
-    }
-    false
+    phrase_lookup::enter_own(index, k, start, text);
+    true
 }
 
 // Where the second field of a line starts; where there is none, the line's start.
@@ -35,10 +29,7 @@ fn second(own: &[u8], a: usize, e: usize) -> usize {
         return a;
     }
     let comma = text::find(own, a, b',');
-    if comma < e {
-        return comma + 1;
-    }
-    a
+    if comma < e { comma + 1 } else { a }
 }
 
 // Enters the numbers of the first `count` lines, at most 64, and answers how many there are.
@@ -46,24 +37,18 @@ pub fn enter_lines(index: &mut [u32], book: &[u8], own: &[u8], count: usize) -> 
     requires { Indexed index.old book.now × (449 ≤ length index.old) }
     ensures { Indexed index.new book.now × OwnNumbers index.new book.now own.now result }
 {
-    let mut k = 0;
+    let most = count.min(64);
     let mut a = 0;
-    while k < count {
+    for k in 0..most {
         if own.len() < a {
             return k;
         }
-        if 64 <= k {
-            return k;
-        }
         let e = text::find(own, a, b'\n');
-        let line = &own[a..e];
-        let text = text_parts::part(line, b',', 1);
-        if enter_at(index, own, k, second(own, a, e), text) {
-            k += 1;
-            a = e + 1;
-        } else {
+        let text = text_parts::part(&own[a..e], b',', 1);
+        if !enter_at(index, own, k, second(own, a, e), text) {
             return k;
         }
+        a = e + 1;
     }
-    k
+    most
 }

@@ -4,29 +4,16 @@
 
 use std::io;
 
-// What is printed for a guide.
-fn print(rt: &impl Print, guide: &[u8]) -> io::Result<()> {
-    let mut out = [0; 340000];
-    let length = show::show(guide, &mut out);
-    rt.write_all(&out[..length])
-}
-
 // All guides, up to the end of what was read.
 fn guides(rt: &impl Print, s: &[u8]) -> io::Result<()> {
-    let mut at = 0;
-    while at < s.len() {
-        print(rt, vectors::slice(s, at))?;
-        let next = vectors::past_slice(s, at);
-        if next <= at {
-            break;
-        }
-        at = next;
-    }
-    Ok(())
+    vectors::each_place(s, |at| {
+        show::print_shown(rt, vectors::slice(s, at))?;
+        Ok(vectors::past_slice(s, at))
+    })
 }
 
 fn main(rt: HostRuntime) -> io::Result<()> {
-    let mut input = vectors::cases_space();
+    let mut input = [0; vectors::CASES];
     let count = vectors::read_full(&mut rt.stdin(), &mut input);
     guides(&rt, &input[..count])
 }

@@ -3,7 +3,6 @@
 // Writes a line for each case; model/README.md has the format.
 #![tactic(auto)]
 
-use decimals::{Constant, Natural};
 use printed::front;
 use std::io;
 
@@ -36,18 +35,16 @@ fn put_part(line: &mut [u8], at: usize, part: &[u8]) -> usize {
 // The parts from the first to the one behind the last, from a place of the line on.
 fn each_part(line: &mut [u8], at: usize, bytes: &[u8], by: u8, count: usize) -> usize {
     let mut end = at;
-    let mut k = 0;
-    while k < count {
+    for k in 0..=count {
         end = put_part(line, end, text_parts::part(bytes, by, k));
-        k += 1;
     }
-    put_part(line, end, text_parts::part(bytes, by, count))
+    end
 }
 
 // How many parts there are, and the parts.
 fn read_parts(line: &mut [u8], s: &[u8], at: usize) -> usize {
     let by = vectors::byte(s, at);
-    let bytes = vectors::slice(s, vectors::past(at, 4));
+    let bytes = vectors::slice(s, at.saturating_add(4));
     let count = text_parts::count_parts(bytes, by);
     let end = text_out::put_natural(line, 0, count);
     let end = each_part(line, end, bytes, by, count);
@@ -57,15 +54,15 @@ fn read_parts(line: &mut [u8], s: &[u8], at: usize) -> usize {
 // Whether the fields from one on are texts.
 fn read_texts(line: &mut [u8], s: &[u8], at: usize) -> usize {
     let from = vectors::long_number(s, at);
-    let bytes = vectors::slice(s, vectors::past(at, 8));
+    let bytes = vectors::slice(s, at.saturating_add(8));
     put_yes(line, text_bytes::are_texts(bytes, from))
 }
 
 // A number up to a limit.
 fn read_natural(line: &mut [u8], s: &[u8], at: usize) -> usize {
     let limit = vectors::number(s, at) as u32;
-    let bytes = vectors::slice(s, vectors::past(at, 4));
-    let Natural::Is(value) = decimals::read_natural(bytes, limit) else {
+    let bytes = vectors::slice(s, at.saturating_add(4));
+    let Some(value) = decimals::read_natural(bytes, limit) else {
         return put_yes(line, false);
     };
     let end = printed::put_labelled(line, 0, b"Y,", value as usize);
@@ -74,7 +71,7 @@ fn read_natural(line: &mut [u8], s: &[u8], at: usize) -> usize {
 
 // A constant.
 fn read_constant(line: &mut [u8], s: &[u8], at: usize) -> usize {
-    let Constant::Is(value) = decimals::read_constant(vectors::slice(s, at)) else {
+    let Some(value) = decimals::read_constant(vectors::slice(s, at)) else {
         return put_yes(line, false);
     };
     let end = text_out::put(line, 0, b"Y,");
@@ -92,8 +89,8 @@ fn read_same(line: &mut [u8], s: &[u8], at: usize) -> usize {
 // The first place of a byte from a place on, which is at most the length.
 fn read_find(line: &mut [u8], s: &[u8], at: usize) -> usize {
     let from = vectors::long_number(s, at);
-    let byte = vectors::byte(s, vectors::past(at, 8));
-    let bytes = vectors::slice(s, vectors::past(at, 12));
+    let byte = vectors::byte(s, at.saturating_add(8));
+    let bytes = vectors::slice(s, at.saturating_add(12));
     if bytes.len() < from {
         return 0;
     }
@@ -126,10 +123,10 @@ fn put_value(s: &[u8], kind: usize, at: usize, out: &mut [u8], place: usize) -> 
 // A case that writes, into the bytes of `space` that it lends.
 fn put_case(line: &mut [u8], s: &[u8], kind: usize, at: usize, space: &mut [u8]) -> usize {
     let length = vectors::lent(space, vectors::number(s, at));
-    let place = vectors::long_number(s, vectors::past(at, 4));
+    let place = vectors::long_number(s, at.saturating_add(4));
     let out = &mut space[..length];
     vectors::fill(out);
-    let behind = put_value(s, kind, vectors::past(at, 12), out, place);
+    let behind = put_value(s, kind, at.saturating_add(12), out, place);
     put_line(line, behind, out)
 }
 
@@ -152,34 +149,28 @@ fn case(line: &mut [u8], s: &[u8], kind: usize, at: usize, space: &mut [u8]) -> 
 fn behind(s: &[u8], kind: usize, at: usize) -> usize {
     match kind {
         0 | 4 | 10 => vectors::past_slice(s, at),
-        1 | 3 => vectors::past_slice(s, vectors::past(at, 4)),
-        2 => vectors::past_slice(s, vectors::past(at, 8)),
-        5 | 6 => vectors::past(at, 16),
+        1 | 3 => vectors::past_slice(s, at.saturating_add(4)),
+        2 => vectors::past_slice(s, at.saturating_add(8)),
+        5 | 6 => at.saturating_add(16),
         8 => vectors::past_slice(s, vectors::past_slice(s, at)),
-        _ => vectors::past_slice(s, vectors::past(at, 12)),
+        _ => vectors::past_slice(s, at.saturating_add(12)),
     }
 }
 
 // All cases, up to the end of what was read.
 fn cases(rt: &impl Print, s: &[u8], space: &mut [u8], line: &mut [u8]) -> io::Result<()> {
-    let mut at = 0;
-    while at < s.len() {
+    vectors::each_place(s, |at| {
         let kind = vectors::number(s, at);
-        let first = vectors::past(at, 4);
+        let first = at.saturating_add(4);
         let end = case(line, s, kind, first, space);
         rt.write_all(front(line, end))?;
-        let next = behind(s, kind, first);
-        if next <= at {
-            break;
-        }
-        at = next;
-    }
-    Ok(())
+        Ok(behind(s, kind, first))
+    })
 }
 
 // The longest line has 150 bytes. A longer one than the buffer would be cut off, and differ.
 fn main(rt: HostRuntime) -> io::Result<()> {
-    let mut input = vectors::cases_space();
+    let mut input = [0; vectors::CASES];
     let mut space = [0; 4096];
     let mut line = [0; 65536];
     let count = vectors::read_full(&mut rt.stdin(), &mut input);

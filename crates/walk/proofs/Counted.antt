@@ -6,8 +6,8 @@ use mathlib.Core.List.{List, [], ◌∷◌}
 use Rattle.text.specs.Text.{Text}
 use Rattle.phrases.specs.Lookup.{own_texts}
 use lib.ListN.{length}
+use Rattle.std.specs.Prelude.{Ok}
 use Rattle.lines.specs.declared.Form.TheVariants.{Guide as a_guide}
-use Rattle.lines.specs.declared.Checked.TheVariants.{Fine}
 use Rattle.lines.specs.Line.{Line, phrase, says, if_line, else_line, fi_line, goto_line, if_skip_line, faulty}
 use Rattle.lines.specs.Check.{Seen, nothing_seen, next, lines_of}
 use Rattle.lines.specs.Answers.{seen_in, checked_answer}
@@ -45,7 +45,7 @@ lines-counted book n s last (l ∷ ls) p = omega (arith, lines-counted book (suc
 
 -- the check against some book accepts the guide, and counts n instructions
 abbrev pub Counted : List ℕ → ℕ → Type 0
-Counted g n = (book : List Text) × (own : ℕ) × (checked_answer (seen_in a_guide book g) ≡ Fine own n)
+Counted g n = (book : List Text) × (own : ℕ) × (checked_answer (seen_in a_guide book g) ≡ Ok (record { own = own; instructions = n }))
 
 module _ (g : List ℕ) (n : ℕ) (c : Counted g n) where
   abbrev accepted : Accepts a_guide c.0 g (record { own = own_texts c.1 g; lines = lines_of a_guide g })
@@ -59,7 +59,7 @@ module _ (g : List ℕ) (n : ℕ) (c : Counted g n) where
   few-counted = omega (arith, accepted.room, fine-counted a_guide c.0 g c.2)
 
   pub counted-clean : Clean a_guide g
-  counted-clean = accepted-clean c.0 g c.1 n c.2
+  counted-clean = accepted-clean c.0 g (record { own = c.1; instructions = n }) c.2
 
   pub counted-size : length g ≤ 16384
   counted-size = accepted.size

@@ -17,7 +17,6 @@ use Rattle.output.proofs.Poured.{ended}
 use Rattle.transcript.specs.declared.Performed.{Performed}
 use Rattle.transcript.specs.State.{State, start, step, line_bytes, transcript_bytes}
 use Rattle.transcript.specs.Perform.{Ending, goes_on, verdict, waits, outside, perform, holds, state_of, report}
-use Rattle.transcript.specs.Perform as perform
 use Rattle.transcript.specs.Machine.{Laid, laid, performed}
 use Rattle.statements.proofs.Performs.{first_line}
 use Rattle.statements.proofs.Rooms.{state_room, perform-room, answers-room}

@@ -6,9 +6,8 @@ use mathlib.Core.List.{List}
 use lib.ListN.{length}
 use lib.IntN.{ℤ}
 use Rattle.causes.specs.Answers.{made, refused, Answer, refusing, lent}
-use Rattle.causes.specs.declared.Cause.TheVariants.{Book}
 use Rattle.causes.specs.declared.Refusal.{Refusal}
-use Rattle.phrases.specs.declared.Book.TheVariants.{Holds, Bad}
+use Rattle.std.specs.Prelude.{Ok, Err}
 use Rattle.phrases.specs.Book.{book_phrases}
 use Rattle.phrases.specs.Lookup.{book_texts, book_answer}
 use Rattle.phrases.proofs.Answers.{book-is}
@@ -17,7 +16,7 @@ use Rattle.transcript.specs.State.{State, start}
 use Rattle.transcript.specs.Perform.{Ending, report}
 use Rattle.transcript.specs.Machine.{machine_state, laid, performed}
 use Rattle.lines.specs.declared.Form.TheVariants.{Guide as a_guide}
-use Rattle.lines.specs.declared.Checked.TheVariants.{Fine, Refused}
+use Rattle.lines.specs.declared.Counts.{Counts}
 use Rattle.lines.specs.Check.{lines_of}
 use Rattle.lines.specs.Answers.{seen_in, checked_answer}
 use Rattle.check_lines.proofs.Answers.{accept-is}
@@ -44,20 +43,20 @@ text-laid g answers rs m w us o out f e =
 -- ---- the book and the guide
 
 module _ (g book : List ℕ) (answers : List ℤ) where
-  book-refused : (line : ℕ) → book_answer (book_phrases book) ≡ Bad line → walked book g answers ≡ refused Book line
+  book-refused : (r : Refusal) → book_answer (book_phrases book) ≡ Err r → walked book g answers ≡ refused r.cause r.place
   unfolding walked
-  book-refused line e = rw (book-is book e)
+  book-refused r e = rw (book-is book e)
 
-  guide-refused : (n : ℕ) (r : Refusal) → book_answer (book_phrases book) ≡ Holds n
-      → checked_answer (seen_in a_guide (book_texts book) g) ≡ Refused r → walked book g answers ≡ refused r.cause r.place
+  guide-refused : (n : ℕ) (r : Refusal) → book_answer (book_phrases book) ≡ Ok n
+      → checked_answer (seen_in a_guide (book_texts book) g) ≡ Err r → walked book g answers ≡ refused r.cause r.place
   unfolding walked guide_of
   guide-refused n r e f = rw (book-is book e, accept-is a_guide g (book_texts book) f)
 
   -- an accepted guide is walked over its lines
-  text-walked : (n i k : ℕ) → book_answer (book_phrases book) ≡ Holds n
-      → checked_answer (seen_in a_guide (book_texts book) g) ≡ Fine i k → walked book g answers ≡ made (report (walk_text g answers))
+  text-walked : (n : ℕ) (k : Counts) → book_answer (book_phrases book) ≡ Ok n
+      → checked_answer (seen_in a_guide (book_texts book) g) ≡ Ok k → walked book g answers ≡ made (report (walk_text g answers))
   unfolding walked guide_of walk_text lines_at
-  text-walked n i k e f =
+  text-walked n k e f =
       let accepted = accept-is a_guide g (book_texts book) f in
       let printed = (accepted-guide (book_texts book) g _ accepted).printed in
       rw (book-is book e, accepted)
@@ -67,17 +66,17 @@ module _ (g book : List ℕ) (answers : List ℤ) where
   -- ---- what the call leaves
 
   module _ (out : List ℕ) where
-    pub call-book : (line : ℕ) → book_answer (book_phrases book) ≡ Bad line → (refusing Book line, out) ≡ walk_call g book answers out
+    pub call-book : (r : Refusal) → book_answer (book_phrases book) ≡ Err r → (refusing r.cause r.place, out) ≡ walk_call g book answers out
     unfolding walk_call
-    call-book line e = rw (book-refused line e)
+    call-book r e = rw (book-refused r e)
 
-    pub call-guide : (n : ℕ) (r : Refusal) → book_answer (book_phrases book) ≡ Holds n
-        → checked_answer (seen_in a_guide (book_texts book) g) ≡ Refused r → (refusing r.cause r.place, out) ≡ walk_call g book answers out
+    pub call-guide : (n : ℕ) (r : Refusal) → book_answer (book_phrases book) ≡ Ok n
+        → checked_answer (seen_in a_guide (book_texts book) g) ≡ Err r → (refusing r.cause r.place, out) ≡ walk_call g book answers out
     unfolding walk_call
     call-guide n r e f = rw (guide-refused n r e f)
 
-    pub call-walked : (n i k : ℕ) (y : Answer × List ℕ) → book_answer (book_phrases book) ≡ Holds n
-        → checked_answer (seen_in a_guide (book_texts book) g) ≡ Fine i k → y ≡ lent (made (report (walk_text g answers))) out
+    pub call-walked : (n : ℕ) (k : Counts) (y : Answer × List ℕ) → book_answer (book_phrases book) ≡ Ok n
+        → checked_answer (seen_in a_guide (book_texts book) g) ≡ Ok k → y ≡ lent (made (report (walk_text g answers))) out
         → y ≡ walk_call g book answers out
     unfolding walk_call
-    call-walked n i k y e f h = rw (text-walked n i k e f) h
+    call-walked n k y e f h = rw (text-walked n k e f) h

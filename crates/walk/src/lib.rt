@@ -11,26 +11,16 @@ ghost use Rattle.std.specs.Prelude.{◌≡◌};
 ghost use Rattle.causes.specs.Answers.{ran_answer};
 ghost use Rattle.walking.specs.Call.{walk_call};
 
-use causes::{Cause, Ran, Refusal};
-use lines::{Checked, Form};
-use phrases::{BOOK_NUMBERS, Book};
+use causes::Ran;
+use lines::Form;
+use phrases::BOOK_NUMBERS;
 
 // A guide is walked on the answers, and its transcript written.
 pub fn walk(guide: &[u8], book: &[u8], answers: &[i32], transcript: &mut [u8]) -> Ran
     ensures { (ran_answer result, transcript.new) ≡ walk_call guide.now book.now answers.now transcript.old }
 {
     let mut index = [0u32; BOOK_NUMBERS];
-    match phrase_check::check_book(book, &mut index) {
-        Book::Bad(line) => Ran::Refused(Refusal {
-            cause: Cause::Book,
-            place: line,
-        }),
-        Book::Holds(_) => match check_lines::check(Form::Guide, &mut index, book, guide) {
-            Checked::Refused(r) => Ran::Refused(r),
-            Checked::Fine {
-                own: _,
-                instructions,
-            } => passes::write(guide, instructions, answers, transcript),
-        },
-    }
+    phrase_check::check_book(book, &mut index)?;
+    let counts = check_lines::check(Form::Guide, &mut index, book, guide)?;
+    passes::write(guide, counts.instructions, answers, transcript)
 }

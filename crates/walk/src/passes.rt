@@ -6,7 +6,6 @@ ghost use Rattle.transcript.specs.Perform.{report};
 ghost use Rattle.transcript.specs.Machine.{laid, performed};
 ghost use Rattle.lines.specs.declared.Form.TheVariants.{Guide as a_guide};
 ghost use Rattle.lines.specs.Clean.{Clean};
-ghost use Rattle.lines.specs.declared.Checked.TheVariants.{Fine};
 ghost use Rattle.lines.specs.Answers.{seen_in, checked_answer};
 ghost use Rattle.text.specs.Text.{Text};
 ghost use Rattle.walk_blocks.specs.Descend.{walk_text};
@@ -30,7 +29,7 @@ fn produce(guide: &[u8], answers: &[i32], out: &mut [u8]) -> Performed
 // instruction and 14 more for each answer, takes any transcript. Else the walk is made on no buffer first, to learn the transcript's length;
 // then 11, or the transcript is written.
 pub fn write(guide: &[u8], instructions: usize, answers: &[i32], transcript: &mut [u8]) -> Ran
-    requires { (book : List Text) × (own : ℕ) × (checked_answer (seen_in a_guide book guide.now) ≡ Fine own instructions) }
+    requires { (book : List Text) × (own : ℕ) × (checked_answer (seen_in a_guide book guide.now) ≡ Ok (record { own = own; instructions = instructions })) }
     ensures { (ran_answer result, transcript.new) ≡ lent (made (report (walk_text guide.now answers.now))) transcript.old }
 {
     if answers.len() <= 65536 {
@@ -41,7 +40,7 @@ pub fn write(guide: &[u8], instructions: usize, answers: &[i32], transcript: &mu
     }
     let length = produce(guide, answers, &mut []).end;
     if transcript.len() < length {
-        return Ran::Refused(Refusal {
+        return Err(Refusal {
             cause: Cause::TooShort,
             place: 0,
         });

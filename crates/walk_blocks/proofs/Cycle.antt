@@ -3,7 +3,7 @@ use Prim.Native.Nat.{ℕ, zero, suc, ◌-◌, ◌≤◌, ◌<◌}
 use native.Mathlib.Omega.{arith}
 use native.Mathlib.Numerals.{sub-one}
 use mathlib.Core.Path.{◌≡◌, refl, sym, ap, ◌∙◌}
-use mathlib.Core.List.{List, [], ◌∷◌}
+use mathlib.Core.List.{List, ◌∷◌}
 use mathlib.Core.Bool.{Bool, true, false}
 use lib.ListN.{length, drop}
 use lib.IntN.{ℤ}
@@ -14,10 +14,10 @@ use Rattle.lines.specs.Line.{Line, line_of}
 use Rattle.guide.specs.declared.Here.{Here}
 use Rattle.guide.specs.declared.Role.{Role}
 use Rattle.guide.specs.Lines.{first_role, begins_by, else_by, lines_at, pass, line_text, Reads, ReadsLine}
-use Rattle.guide.proofs.Reading.{begins-first, begins-less}
+use Rattle.guide.proofs.Reading.{begins-less}
 use Rattle.guide.proofs.Passing.{passed-no-more}
 use Rattle.walk_blocks.specs.declared.Walked.{Walked}
-use Rattle.walk_blocks.specs.Descend.{Left, here, next, at_else, leave_true, leave_else, else_block, walk_if, statement_with, block_with, descend}
+use Rattle.walk_blocks.specs.Descend.{here, next, at_else, leave_true, leave_else, else_block, walk_if, statement_with, block_with, descend}
 use Rattle.walk_blocks.specs.Leaves.{Leaves, LeavesFrom}
 use Rattle.walk_blocks.specs.Says.{is_end}
 use Rattle.walk_blocks.proofs.Adding.{true-adds, else-adds, descend-adds}
@@ -77,9 +77,10 @@ Rest g answers a s at out b t first old =
 -- ---- what is left
 
 module _ (g : List ℕ) (answers : List ℤ) (at : ℕ) (out : List ℕ) where
-  pub block-ends : (a : ℕ) (s : State) (h : Here) (w : Walked) (rs : List ℤ) (o : List ℕ) → ReadsLine g a h → begins_by h.role ≡ false
+  -- no statement begins at a
+  pub block-ends : (a : ℕ) (s : State) (w : Walked) (rs : List ℤ) (o : List ℕ) → begins_by (first_role (lines_at g a)) ≡ false
       → Leaves g answers w rs o at (here s (lines_at g a)) out → BlockLeft g answers a s w rs o at out
-  block-ends a s h w rs o r v f n l = leaves-as g answers w rs o at _ out f _ (descend-ends n s (lines_at g a) (ap begins_by (sym r.reads.role) ∙ v))
+  block-ends a s w rs o v f n l = leaves-as g answers w rs o at _ out f _ (descend-ends n s (lines_at g a) v)
 
   -- a statement begins at a, and its line is h
   module _ (a : ℕ) (s : State) (h : Here) (r : ReadsLine g a h) (v : begins_by h.role ≡ true) (w : Walked) (rs : List ℤ) (o : List ℕ)
@@ -91,7 +92,7 @@ module _ (g : List ℕ) (answers : List ℤ) (at : ℕ) (out : List ℕ) where
         → next (statement_with (descend (n - 1)) s (line_of a_guide (line_text g h) ∷ lines_at g h.next)) (descend (n - 1))
         ≡ descend n s (lines_at g a)
     begun n l =
-        ap (λ (ls : List Line). next (statement_with (descend (n - 1)) s ls) (descend (n - 1))) (sym (begins-first g a h r v).lines)
+        ap (λ (ls : List Line). next (statement_with (descend (n - 1)) s ls) (descend (n - 1))) (sym r.first.lines)
         ∙ descend-more n s (lines_at g a) (omega (arith, less)) (ap begins_by (sym r.reads.role) ∙ v)
 
     pub block-ended : is_end w.left.outcome ≡ false → BlockLeft g answers a s w rs o at out

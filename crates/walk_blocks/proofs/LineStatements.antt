@@ -3,7 +3,9 @@ use Prim.Native.Nat.{ℕ}
 use native.Mathlib.Omega.{arith}
 use mathlib.Core.Path.{◌≡◌, refl, sym, ap, ◌∙◌, subst}
 use mathlib.Core.List.{List, [], ◌∷◌}
-use mathlib.Core.Bool.{Bool, true, false, false≢true}
+use mathlib.Core.Bool.{Bool, true, false≢true}
+use Rattle.std.specs.Prelude.{Ok, IfOk}
+use Rattle.std.proofs.lemmas.Result.{IfOk-at_ok}
 use lib.ListN.{length, drop, get_or}
 use Rattle.text.specs.Parts.{split, comma}
 use Rattle.transcript.specs.declared.Test.{Test}
@@ -47,13 +49,13 @@ read-fields (as-if r o c) = tt
 read-fields as-else = tt
 read-fields as-fi = tt
 
-same-statement : (x : Statement) (fs : List (List ℕ)) → Fields (says x) fs → x ≡ statement_by (head_of (says x)) fs
-same-statement (input r t) fs e = rw e
-same-statement (inputs r t options) fs e = rw (e.0, e.1)
-same-statement (print t) fs e = rw e
-same-statement (printex t) fs e = rw e
+same-statement : (x : Statement) (fs : List (List ℕ)) → Fields (says x) fs → IfOk (head_of (says x)) (λ h. x ≡ statement_by h fs)
+same-statement (input r t) fs e = rw e refl
+same-statement (inputs r t options) fs e = rw (e.0, e.1) refl
+same-statement (print t) fs e = rw e refl
+same-statement (printex t) fs e = rw e refl
 
-head-says : (x : Statement) (fs : List (List ℕ)) → Fields (says x) fs → StatementOk x → Says (head_of (says x)) fs
+head-says : (x : Statement) (fs : List (List ℕ)) → Fields (says x) fs → StatementOk x → IfOk (head_of (says x)) (λ h. Says h fs)
 head-says (input r t) fs e v = v.0
 head-says (inputs r t options) fs e v = (v.0, sym (ap length e.1), omega arith)
 head-says (print t) fs e v = tt
@@ -64,41 +66,28 @@ head-says (printex t) fs e v = tt
 abbrev NoIf : Head → Type 0
 NoIf h = (test : Test) → h ≡ head.If test → ⊥
 
-statement-line : (l : Line) → begins_by (role_of l) ≡ true → NoIf (head_of l) → (x : Statement) × (l ≡ says x)
-statement-line (says x) h n = (x, refl)
-statement-line (if_line test) h n = absurd (n test refl)
-statement-line (phrase t) h n = absurd (false≢true h)
-statement-line else_line h n = absurd (false≢true h)
-statement-line fi_line h n = absurd (false≢true h)
-statement-line (goto_line k) h n = absurd (false≢true h)
-statement-line (if_skip_line test k) h n = absurd (false≢true h)
-statement-line (faulty c) h n = absurd (false≢true h)
+statement-line : (l : Line) → begins_by (role_of l) ≡ true → {h : Head} → Ok h ≡ head_of l → NoIf h → (x : Statement) × (l ≡ says x)
+statement-line (says x) b e n = (x, refl)
+statement-line (if_line test) b {h} e n = let k : h ≡ head.If test = cc in absurd (n test k)
+statement-line (phrase t) b e n = absurd (false≢true b)
+statement-line else_line b e n = absurd (false≢true b)
+statement-line fi_line b e n = absurd (false≢true b)
+statement-line (goto_line k) b e n = absurd (false≢true b)
+statement-line (if_skip_line test k) b e n = absurd (false≢true b)
+statement-line (faulty c) b e n = absurd (false≢true b)
 
-abbrev is_if : Head → Bool
-is_if head.Phrase = false
-is_if (head.Input r) = false
-is_if (head.Inputs r n) = false
-is_if head.Print = false
-is_if head.Printex = false
-is_if (head.If test) = true
-is_if head.Else = false
-is_if head.Fi = false
-is_if (head.Goto k) = false
-is_if (head.IfSkip test k) = false
-is_if (head.Faulty c) = false
-
-if-line : (l : Line) (test : Test) → head_of l ≡ head.If test → l ≡ if_line test
+if-line : (l : Line) (test : Test) → Ok (head.If test) ≡ head_of l → l ≡ if_line test
 if-line (if_line u) test e = cc
-if-line (phrase t) test e = absurd (false≢true (ap is_if e))
-if-line (says (input r t)) test e = absurd (false≢true (ap is_if e))
-if-line (says (inputs r t options)) test e = absurd (false≢true (ap is_if e))
-if-line (says (print t)) test e = absurd (false≢true (ap is_if e))
-if-line (says (printex t)) test e = absurd (false≢true (ap is_if e))
-if-line else_line test e = absurd (false≢true (ap is_if e))
-if-line fi_line test e = absurd (false≢true (ap is_if e))
-if-line (goto_line k) test e = absurd (false≢true (ap is_if e))
-if-line (if_skip_line u k) test e = absurd (false≢true (ap is_if e))
-if-line (faulty c) test e = absurd (false≢true (ap is_if e))
+if-line (phrase t) test e = cc
+if-line (says (input r t)) test e = cc
+if-line (says (inputs r t options)) test e = cc
+if-line (says (print t)) test e = cc
+if-line (says (printex t)) test e = cc
+if-line else_line test e = cc
+if-line fi_line test e = cc
+if-line (goto_line k) test e = cc
+if-line (if_skip_line u k) test e = cc
+if-line (faulty c) test e = cc
 
 -- ---- what the code's matches leave
 
@@ -114,14 +103,13 @@ is-printex head.Else fs v i j k = absurd v
 is-printex head.Fi fs v i j k = absurd v
 is-printex (head.Goto n) fs v i j k = absurd v
 is-printex (head.IfSkip test n) fs v i j k = absurd v
-is-printex (head.Faulty c) fs v i j k = absurd v
 
 -- ---- the statement that begins with a line whose bytes are t
 
-module _ (t : List ℕ) (h : Head) (e : h ≡ head_of (line_of a_guide t)) where
+module _ (t : List ℕ) (h : Head) (e : Ok h ≡ head_of (line_of a_guide t)) where
   module _ (b : begins_by (role_of (line_of a_guide t)) ≡ true) (n : NoIf h) where
     said : (x : Statement) × (line_of a_guide t ≡ says x)
-    said = statement-line (line_of a_guide t) b (λ test k. n test (e ∙ k))
+    said = statement-line (line_of a_guide t) b e n
 
     fields-said : (q : (x : Statement) × (line_of a_guide t ≡ says x)) → Fields (says q.0) (split comma t)
     fields-said (x, q) = subst (λ (l : Line). Fields l (split comma t)) q (read-fields (line-read-as a_guide t))
@@ -132,7 +120,7 @@ module _ (t : List ℕ) (h : Head) (e : h ≡ head_of (line_of a_guide t)) where
         go : (q : (x : Statement) × (line_of a_guide t ≡ says x)) → Fields (says q.0) (split comma t) → Says h (split comma t)
         go (x, q) f =
             let v : StatementOk x = subst (λ (l : Line). LineOk a_guide l) q (line-valid a_guide t).ok in
-            subst (λ (k : Head). Says k (split comma t)) (sym (e ∙ ap head_of q)) (head-says x (split comma t) f v)
+            IfOk-at_ok (λ (k : Head). Says k (split comma t)) (sym (e ∙ ap head_of q)) (head-says x (split comma t) f v)
 
     pub line-performs : (k : Walker) (s : State) (ls : List Line)
         → follow (perform (statement_by h (split comma t)) s) ls here ≡ statement_with k s (line_of a_guide t ∷ ls)
@@ -142,14 +130,15 @@ module _ (t : List ℕ) (h : Head) (e : h ≡ head_of (line_of a_guide t)) where
         go : (q : (x : Statement) × (line_of a_guide t ≡ says x)) → Fields (says q.0) (split comma t)
             → follow (perform (statement_by h (split comma t)) s) ls here ≡ statement_with k s (line_of a_guide t ∷ ls)
         go (x, q) f =
-            let y : statement_by h (split comma t) ≡ x = ap (λ (k : Head). statement_by k (split comma t)) (e ∙ ap head_of q) ∙ sym (same-statement x (split comma t) f) in
-            rw (y, q) refl
+            let same = same-statement x (split comma t) f in
+            let y : x ≡ statement_by h (split comma t) = IfOk-at_ok (λ (k : Head). x ≡ statement_by k (split comma t)) (sym (e ∙ ap head_of q)) same in
+            rw (← y, q) refl
 
   module _ (test : Test) (i : h ≡ head.If test) where
     pub if-test : TestOk test
-    if-test = subst (λ (l : Line). LineOk a_guide l) (if-line (line_of a_guide t) test (sym e ∙ i)) (line-valid a_guide t).ok
+    if-test = subst (λ (l : Line). LineOk a_guide l) (if-line (line_of a_guide t) test (ap Ok (sym i) ∙ e)) (line-valid a_guide t).ok
 
     pub if-walks : (k : Walker) (s : State) (ls : List Line) (v : Bool) → v ≡ holds test s
         → walk_if v k (step s) ls ≡ statement_with k s (line_of a_guide t ∷ ls)
     unfolding statement_with
-    if-walks k s ls v f = let q = if-line (line_of a_guide t) test (sym e ∙ i) in rw (q, f) refl
+    if-walks k s ls v f = let q = if-line (line_of a_guide t) test (ap Ok (sym i) ∙ e) in rw (q, f) refl

@@ -18,7 +18,6 @@ statement_by head.Else fs = print []
 statement_by head.Fi fs = print []
 statement_by (head.Goto k) fs = print []
 statement_by (head.IfSkip test k) fs = print []
-statement_by (head.Faulty c) fs = print []
 
 -- a statement's head: its register is one of the 32, and its options are so many, at least one
 abbrev pub Says : Head → List (List ℕ) → Type 0
@@ -32,7 +31,6 @@ Says head.Else fs = ⊥
 Says head.Fi fs = ⊥
 Says (head.Goto k) fs = ⊥
 Says (head.IfSkip test k) fs = ⊥
-Says (head.Faulty c) fs = ⊥
 
 -- the walk goes on
 abbrev pub is_end : Outcome → Bool

@@ -35,21 +35,19 @@ pub fn block(
     let mut end = at;
     let mut m = begun;
     loop {
-        let h = guide::line_at(guide, place);
-        let role = h.role;
-        if guide::begins(role) {
-            let w = statement(guide, answers, registers, out, h, end, m);
-            let p = w.left;
-            if goes_on(p) {
-                place = w.place;
-                end = p.end;
-                m = p.machine;
-            } else {
-                return w;
-            }
-        } else {
+        let Some(h) = guide::line_at(guide, place) else {
+            return here(m, end, place);
+        };
+        if !guide::begins(h.role) {
             return here(m, end, place);
         }
+        let w = statement(guide, answers, registers, out, h, end, m);
+        if !goes_on(w.left) {
+            return w;
+        }
+        place = w.place;
+        end = w.left.end;
+        m = w.left.machine;
     }
 }
 
@@ -68,13 +66,10 @@ fn statement(
     ensures leaves_from { LeavesFrom guide.now h.next answers.now result registers.new out.new at (λ n. statement_with (descend n) (machine_state registers.old answers.now m) (line_of a_guide (line_text guide.now h) ∷ lines_at guide.now h.next)) out.old }
     ensures paced { Paced guide.now h.next result }
 {
-    let head = h.head;
-    let start = h.start;
-    let end = h.end;
-    let Head::If { test } = head else {
-        let p = perform(&guide[start..end], head, answers, registers, out, at, m);
+    let Head::If { test } = h.head else {
+        let line = &guide[h.start..h.end];
         return Walked {
-            left: p,
+            left: perform(line, h.head, answers, registers, out, at, m),
             place: h.next,
         };
     };
@@ -101,10 +96,8 @@ fn true_block(
     ensures paced { Paced guide.now a result }
 {
     let w = block(guide, answers, registers, out, a, at, m);
-    let p = w.left;
-    if goes_on(p) {
-        let n = p.machine;
-        return leave_true(guide, w.place, p.end, n);
+    if goes_on(w.left) {
+        return leave_true(guide, w.place, w.left.end, w.left.machine);
     }
     w
 }
@@ -125,15 +118,12 @@ fn no_block(
     ensures paced { Paced guide.now a result }
 {
     let h = guide::role_at(guide, guide::pass_over(guide, a));
-    let role = h.role;
-    if guide::is_else(role) {
-        let w = block(guide, answers, registers, out, h.next, at, m);
-        let p = w.left;
-        if goes_on(p) {
-            let n = p.machine;
-            return leave_else(guide, w.place, p.end, n);
-        }
-        return w;
+    if !guide::is_else(h.role) {
+        return here(m, at, h.next);
     }
-    here(m, at, h.next)
+    let w = block(guide, answers, registers, out, h.next, at, m);
+    if goes_on(w.left) {
+        return leave_else(guide, w.place, w.left.end, w.left.machine);
+    }
+    w
 }

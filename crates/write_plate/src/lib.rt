@@ -9,44 +9,37 @@ ghost use Rattle.causes.specs.Answers.{written_answer};
 ghost use Rattle.phrases.specs.Index.{CheckedBook};
 ghost use Rattle.listing.specs.Calls.{write_plate_call};
 
-use causes::{Cause, Refusal, Written};
-use lines::{Checked, Form};
-use phrases::{Book, EMPTY_INDEX_NUMBERS, INDEX_NUMBERS};
+use causes::Written;
+use lines::Form;
+use phrases::{EMPTY_INDEX_NUMBERS, INDEX_NUMBERS};
 
 // The plate with a book that is checked.
 fn write_with(listing: &[u8], index: &mut [u32], book: &[u8], plate: &mut [u8]) -> Written
     requires { CheckedBook most_own index.old book.now }
     ensures { (written_answer result, plate.new) ≡ write_plate_call listing.now book.now plate.old }
 {
-    match check_lines::check(Form::Listing, index, book, listing) {
-        Checked::Refused(r) => Written::Refused(r),
-        Checked::Fine { own, instructions } => assemble::write(
-            Form::Listing,
-            listing,
-            &[],
-            index,
-            book,
-            own,
-            instructions,
-            plate,
-        ),
-    }
+    let counts = check_lines::check(Form::Listing, index, book, listing)?;
+    assemble::write(
+        Form::Listing,
+        listing,
+        &[],
+        index,
+        book,
+        counts.own,
+        counts.instructions,
+        plate,
+    )
 }
 
 // A listing's plate is written into the lent buffer. The index of an empty book is short, so that a small listing clears little.
 pub fn write_plate(listing: &[u8], book: &[u8], plate: &mut [u8]) -> Written
     ensures { (written_answer result, plate.new) ≡ write_plate_call listing.now book.now plate.old }
 {
-    if book.len() == 0 {
+    if book.is_empty() {
         let mut index = [0u32; EMPTY_INDEX_NUMBERS];
         return write_with(listing, &mut index, book, plate);
     }
     let mut index = [0u32; INDEX_NUMBERS];
-    match phrase_check::check_book(book, &mut index) {
-        Book::Bad(line) => Written::Refused(Refusal {
-            cause: Cause::Book,
-            place: line,
-        }),
-        Book::Holds(_) => write_with(listing, &mut index, book, plate),
-    }
+    phrase_check::check_book(book, &mut index)?;
+    write_with(listing, &mut index, book, plate)
 }

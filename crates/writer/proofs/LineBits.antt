@@ -20,7 +20,7 @@ pub line_writes : (c : Phrases) (fs : List Text) (h k : Head) → h ≡ k → (a
 unfolding line_bits instructions_bits
 line_writes c fs h k e at old i last one f = rw (e, one, append-nil) f
 
--- the heads with no instruction: Phrase, If, Else, Fi and Faulty; here as those that are none of the six others
+-- the heads with no instruction: Phrase, If, Else and Fi; here as those that are none of the six others
 module _ (h : Head) (input : (r : ℕ) → h ≡ head.Input r → ⊥) (inputs : (r n : ℕ) → h ≡ head.Inputs r n → ⊥) (print : h ≡ head.Print → ⊥)
     (printex : h ≡ head.Printex → ⊥) (goto : (j : ℕ) → h ≡ head.Goto j → ⊥) (if_skip : (t : Test) (j : ℕ) → h ≡ head.IfSkip t j → ⊥) where
   silent-none : (fs : List Text) → line_instruction h fs ≡ []
@@ -37,7 +37,6 @@ module _ (h : Head) (input : (r : ℕ) → h ≡ head.Input r → ⊥) (inputs :
       go head.Fi e = refl
       go (head.Goto j) e = absurd (goto j e)
       go (head.IfSkip t j) e = absurd (if_skip t j e)
-      go (head.Faulty c) e = refl
 
   pub line-silent : (c : Phrases) (fs : List Text) (at : ℕ) (old : List Bool) → at ≤ 18446744073709551615
       → (at, old) ≡ poured at (line_bits c h fs) old

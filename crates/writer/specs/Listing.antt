@@ -22,7 +22,6 @@ line_instruction (head.IfSkip t k) fs = if_skip t k ∷ []
 line_instruction (head.If t) fs = []
 line_instruction head.Else fs = []
 line_instruction head.Fi fs = []
-line_instruction (head.Faulty c) fs = []
 
 -- its bits
 unfoldable pub line_bits : Phrases → Head → List Text → List Bool

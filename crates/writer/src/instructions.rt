@@ -5,17 +5,22 @@ ghost use Rattle.output.specs.Pour.{poured};
 ghost use Rattle.bits.specs.Bits.{bits_of, bytes_bits};
 ghost use Rattle.text.specs.Parts.{split, comma, parts_from};
 ghost use Rattle.phrases.specs.Phrases.{Phrases};
-ghost use Rattle.phrases.specs.Lookup.{phrases_in};
-ghost use Rattle.phrases.specs.Own.{Listed};
-ghost use Rattle.transcript.specs.Statement.{input, inputs, print, printex};
+ghost use Rattle.transcript.specs.Statement.{input, inputs};
 ghost use Rattle.plate.specs.Program.{if_skip};
-ghost use Rattle.plate.specs.Writing.{op_code, constant_bits, statement_bits, instruction_bits};
+ghost use Rattle.plate.specs.Writing.{op_code, complement, constant_bits, statement_bits, instruction_bits};
 
-use crate::constants::to_bits;
 use causes::limits::SKIPS;
+use phrase_lookup::Lookup;
 use plate::is_short;
 use text_bits::{put_text, put_texts};
 use transcript::{Op, Test};
+
+// The two's complement of 32 bits. Its lowest 16 bits are that of 16 bits.
+fn to_bits(c: i32) -> u32
+    ensures { result ≡ complement 32 c }
+{
+    c.cast_unsigned()
+}
 
 // The number of an OP.
 fn op_code(op: Op) -> usize
@@ -32,34 +37,12 @@ fn op_code(op: Op) -> usize
     }
 }
 
-// A question for a number; its text goes from a to the line's end.
-pub fn put_input(
-    out: &mut [u8],
-    at: usize,
-    register: usize,
-    line: &[u8],
-    a: usize,
-    index: &[u32],
-    book: &[u8],
-    own: &[u8],
-    count: usize,
-) -> usize
-    requires { (length out.old ≤ most_plate_bytes) × (a ≤ length line.now) × Listed index.now book.now own.now count }
-    ensures { (result, bytes_bits out.new) ≡ poured at (statement_bits (phrases_in book.now own.now count) (input register (drop a line.now))) (bytes_bits out.old) }
+// A question for a number.
+pub fn put_input(out: &mut [u8], at: usize, register: usize, text: &[u8], known: &Lookup) -> usize
+    requires { length out.old ≤ most_plate_bytes }
+    ensures { (result, bytes_bits out.new) ≡ poured at (statement_bits known.now (input register text.now)) (bytes_bits out.old) }
 {
-    put_text(
-        out,
-        at,
-        8,
-        register % 32,
-        line,
-        a,
-        line.len(),
-        index,
-        book,
-        own,
-        count,
-    )
+    put_text(out, at, 8, register % 32, text, known)
 }
 
 // A question with options: the text of an `inputs` line stands from a on, and behind it the options, two or more.
@@ -70,53 +53,16 @@ pub fn put_inputs(
     options: usize,
     line: &[u8],
     a: usize,
-    index: &[u32],
-    book: &[u8],
-    own: &[u8],
-    count: usize,
+    known: &Lookup,
 ) -> usize
-    requires { (length out.old ≤ most_plate_bytes) × Listed index.now book.now own.now count × (a ≤ length line.now) × (parts_from comma a line.now ≡ drop 2 (split comma line.now)) × (options ≡ length (drop 3 (split comma line.now))) × (2 ≤ options) }
-    ensures { (result, bytes_bits out.new) ≡ poured at (statement_bits (phrases_in book.now own.now count) (inputs register (get_or (split comma line.now) 2 []) (drop 3 (split comma line.now)))) (bytes_bits out.old) }
+    requires { (length out.old ≤ most_plate_bytes) × (a ≤ length line.now) × (parts_from comma a line.now ≡ drop 2 (split comma line.now)) × (options ≡ length (drop 3 (split comma line.now))) × (2 ≤ options) }
+    ensures { (result, bytes_bits out.new) ≡ poured at (statement_bits known.now (inputs register (get_or (split comma line.now) 2 []) (drop 3 (split comma line.now)))) (bytes_bits out.old) }
 {
     let front = 32 + register % 32;
     let e = text::find(line, a, b',');
-    let mut end = put_text(out, at, 8, front, line, a, e, index, book, own, count);
+    let mut end = put_text(out, at, 8, front, &line[a..e], known);
     end = bits_out::put_bits(out, end, 3, options - 2);
-    put_texts(out, end, line, e + 1, index, book, own, count)
-}
-
-// A text that is shown, from a to the line's end.
-pub fn put_print(
-    out: &mut [u8],
-    at: usize,
-    line: &[u8],
-    a: usize,
-    index: &[u32],
-    book: &[u8],
-    own: &[u8],
-    count: usize,
-) -> usize
-    requires { (length out.old ≤ most_plate_bytes) × (a ≤ length line.now) × Listed index.now book.now own.now count }
-    ensures { (result, bytes_bits out.new) ≡ poured at (statement_bits (phrases_in book.now own.now count) (print (drop a line.now))) (bytes_bits out.old) }
-{
-    put_text(out, at, 3, 2, line, a, line.len(), index, book, own, count)
-}
-
-// A verdict, from a to the line's end.
-pub fn put_printex(
-    out: &mut [u8],
-    at: usize,
-    line: &[u8],
-    a: usize,
-    index: &[u32],
-    book: &[u8],
-    own: &[u8],
-    count: usize,
-) -> usize
-    requires { (length out.old ≤ most_plate_bytes) × (a ≤ length line.now) × Listed index.now book.now own.now count }
-    ensures { (result, bytes_bits out.new) ≡ poured at (statement_bits (phrases_in book.now own.now count) (printex (drop a line.now))) (bytes_bits out.old) }
-{
-    put_text(out, at, 3, 3, line, a, line.len(), index, book, own, count)
+    put_texts(out, end, line, e + 1, known)
 }
 
 // A goto. The phrases do not matter.

@@ -2,9 +2,8 @@
 -- the filling comes last.
 use Prim.Native.Nat.{◌-◌}
 use native.Mathlib.Omega.{arith}
-use mathlib.Core.Path.{ap}
+use mathlib.Core.Path.{refl, ap}
 use borrow.Author.Rules.{rules}
-use Rattle.phrases.specs.Lookup.{phrases_in}
 use Rattle.plate.specs.Writing.{instructions_bits, program_bits}
 use Rattle.text_bits.proofs.Writes.{both, begun, turned, done}
 use Rattle.plate_room.proofs.Plates.{filling}
@@ -17,7 +16,7 @@ use Rattle.assemble.proofs.produce.Goals as goal
 pub loop-a-init : goal.loop-a-init
 loop-a-init c =
     let a = c.args in
-    (searched-none _ _ _ _ _ c.requires.2, begun _ _ (ap (instructions_bits (phrases_in a.book.now a.text.now a.own)) (all-code a.form a.skips.now a.text.now a.instructions)) (search rules))
+    (searched-none _ _ _ _ _ c.requires, begun _ _ (ap (instructions_bits a.known.now) (all-code a.form a.skips.now a.text.now a.instructions)) (search rules))
 
 pub find-e-requires : goal.find-e-requires
 find-e-requires c = omega (arith, c.loop-a.invariant.0.ahead.within)
@@ -32,22 +31,19 @@ pub overflow_sub-instructions : goal.overflow_sub-instructions
 overflow_sub-instructions c = omega (arith, c.loop-a.invariant.0.few)
 
 pub overflow_add-result : goal.overflow_add-result
-overflow_add-result c = omega (arith, c.requires.1.few, c.requires.2.few)
+overflow_add-result c = omega (arith, c.own_count.ensures.upper_bound, c.requires.few)
 
 pub overflow_sub-result : goal.overflow_sub-result
 overflow_sub-result c = omega (arith, c.loop-a.invariant.0.few)
 
-pub shape_of-out-then-behind-skip : goal.shape_of-out-then-behind-skip
-shape_of-out-then-behind-skip c = omega (arith, c.loop-a.invariant.1.size)
-
 pub returns-then-behind-skip : goal.returns-then-behind-skip
 unfolding Produced
 returns-then-behind-skip c =
-    goes-past c.loop-a.invariant.0 c.loop-a-test.true c.find-e.ensures.value c.find-e.ensures.upper_bound c.accepted_line-head.ensures c.count_of.ensures c.skip_at.ensures c.skip_of-skip.ensures c.if-behind-skip.true
+    (refl, rw c.own_count.ensures.value (goes-past c.loop-a.invariant.0 c.loop-a-test.true c.find-e.ensures.value c.find-e.ensures.upper_bound c.accepted_line-head.ensures c.count_of.ensures c.skip_at.ensures c.skip_of-skip.ensures c.if-behind-skip.true))
 
 pub put-end-requires : goal.put-end-requires
 put-end-requires c =
-    (omega (arith, c.loop-a.invariant.1.size), c.requires.1, (c.args.form, c.accepted_line-head.ensures))
+    (c.args.form, c.accepted_line-head.ensures)
 
 pub overflow_add-a : goal.overflow_add-a
 overflow_add-a c = omega (arith, c.find-e.ensures.upper_bound, c.well_formed)
@@ -58,13 +54,10 @@ loop-a-preserved c =
     let next = bits-next c.loop-a.invariant.0.ahead c.loop-a-test.true c.find-e.ensures.value c.find-e.ensures.upper_bound _ _ _ c.accepted_line-head.ensures c.skip_at.ensures c.skip_of-skip.ensures number in
     (goes_on c.loop-a.invariant.0 c.loop-a-test.true c.find-e.ensures.value c.find-e.ensures.upper_bound c.accepted_line-head.ensures c.count_of.ensures c.skip_at.ensures c.skip_of-skip.ensures c.if-behind-skip.false, turned c.loop-a.invariant.1 _ _ next c.put-end.ensures (omega arith))
 
-pub shape_of-out : goal.shape_of-out
-shape_of-out c = omega (arith, c.loop-a.invariant.1.size)
-
 pub returns : goal.returns
 unfolding Produced program_bits
 returns c =
     let a = c.args in
     let lines = done c.loop-a.invariant.1 (bits-end _ a.form a.skips.now a.text.now (a.instructions - c.loop-a.left) _ c.loop-a-test.false) in
-    let program = both _ _ _ _ c.put_front-end.ensures lines c.requires.0 in
-    (searched-end c.loop-a.invariant.0 c.loop-a-test.false, rw (← c.requires.2.count) (filling _ _ program c.put_fill.ensures c.requires.0))
+    let program = both _ _ _ _ c.put_front-end.ensures lines (omega arith) in
+    (searched-end c.loop-a.invariant.0 c.loop-a-test.false, rw (← c.requires.count) (filling _ _ program c.put_fill.ensures (omega arith)))

@@ -2,7 +2,6 @@
 -- the filling comes last.
 use Prim.Native.Nat.{◌-◌}
 use lib.ListN.{length}
-use Rattle.phrases.specs.Lookup.{phrases_in}
 use Rattle.lines.specs.Check.{lines_of}
 use Rattle.plate.specs.Writing.{instructions_bits}
 use Rattle.text_bits.proofs.Writes.{Left}
@@ -12,9 +11,8 @@ use Rattle.assemble.proofs.Searched.{Searched}
 use Rattle.assemble.proofs.produce.Given as goal
 
 abbrev pub invariant-loop-a : goal.invariant-loop-a
-invariant-loop-a l = let c = phrases_in l.book l.text l.own in
-    Searched l.form l.skips l.text l.own l.instructions l.left l.a
-    × Left l.initial.end (instructions_bits c (lines_code l.skips (lines_of l.form l.text))) l.initial.out l.end (instructions_bits c (code_from l.form l.skips l.text (l.instructions - l.left) l.a)) l.out
+invariant-loop-a l = Searched l.form l.skips l.text (length l.known.own) l.instructions l.left l.a
+    × Left l.initial.end (instructions_bits l.known (lines_code l.skips (lines_of l.form l.text))) l.initial.out l.end (instructions_bits l.known (code_from l.form l.skips l.text (l.instructions - l.left) l.a)) l.out
 
 abbrev pub decreases-loop-a : goal.decreases-loop-a
 decreases-loop-a l = length l.text - l.a

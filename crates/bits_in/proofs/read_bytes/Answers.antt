@@ -1,11 +1,11 @@
 -- `bits_in::read_bytes` meets its contract. The loop's invariant: what is read and what is left make the whole number.
 -- The measure is what is left. Assumes nothing.
-use Prim.Native.Nat.{ℕ, ◌+◌, ◌-◌, ◌*◌, ◌/◌, ◌%◌, ◌≤◌, ◌<◌}
-use mathlib.Core.Path.{◌≡◌, sym, ap, ◌∙◌}
+use Prim.Native.Nat.{ℕ, ◌+◌, ◌-◌, ◌*◌, ◌/◌, ◌%◌}
+use mathlib.Core.Path.{sym, ap, ◌∙◌}
 use native.Mathlib.Omega.{arith}
 use lib.ListN.{drop, length-drop}
 use borrow.Author.Rules.{rules}
-use Rattle.bits.specs.declared.Number.TheVariants.{Is}
+use Rattle.std.specs.Prelude.{Some}
 use Rattle.bits.specs.Bits.{bytes_bits}
 use Rattle.bits.proofs.Bytes.{length-bytes_bits}
 use Rattle.bits.proofs.Turns.{PartRead, read-start, read-turn, read_below, read-end}
@@ -15,7 +15,7 @@ use Rattle.bits_in.proofs.read_bytes.Goals as goal
 -- a turn
 module _ (c : goal.After-two_to) where
   abbrev size : ℕ
-  size = c.least-size.result
+  size = c.min-size.result
 
   abbrev place : ℕ
   place = (c.loop-left.index + (c.loop-left.bit + size) / 8) * 8 + (c.loop-left.bit + size) % 8
@@ -49,5 +49,5 @@ overflow_cast-result c = record { fits = read_below c.loop-left.invariant.3 (ome
 pub returns : goal.returns
 returns c =
     let a = c.args in
-    ap Is (read-end c.loop-left.invariant.3 (omega arith))
+    ap Some (read-end c.loop-left.invariant.3 (omega arith))
     ∙ sym (number-in a.width (drop a.at (bytes_bits a.bytes.now)) (simp (length-drop, length-bytes_bits) (omega arith)))

@@ -1,15 +1,8 @@
 -- `bits_in::read_bytes` meets its contract. The loop's invariant: what is read and what is left make the whole number.
 -- The measure is what is left. Assumes nothing.
-use Prim.Native.Nat.{ℕ, ◌+◌, ◌-◌, ◌*◌, ◌/◌, ◌%◌, ◌≤◌, ◌<◌}
-use mathlib.Core.Path.{◌≡◌, sym, ap, ◌∙◌}
-use native.Mathlib.Omega.{arith}
-use lib.ListN.{drop, length-drop}
-use borrow.Author.Rules.{rules}
-use Rattle.bits.specs.declared.Number.TheVariants.{Is}
-use Rattle.bits.specs.Bits.{bytes_bits}
-use Rattle.bits.proofs.Bytes.{length-bytes_bits}
-use Rattle.bits.proofs.Turns.{PartRead, read-start, read-turn, read_below, read-end}
-use Rattle.bits.proofs.Reading.{number-in, number-none}
+use Prim.Native.Nat.{◌+◌, ◌*◌, ◌≤◌, ◌<◌}
+use mathlib.Core.Path.{◌≡◌}
+use Rattle.bits.proofs.Turns.{PartRead}
 use Rattle.bits_in.proofs.read_bytes.Given as goal
 
 abbrev pub invariant-loop-left : goal.invariant-loop-left

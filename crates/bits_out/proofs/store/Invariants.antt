@@ -1,11 +1,9 @@
 -- `bits_out::store` meets its contract. The loop's invariant: writing what is left makes the whole.
 -- The measure is what is left. Assumes nothing.
-use Prim.Native.Nat.{◌+◌, ◌*◌, ◌/◌, ◌%◌, ◌≤◌, ◌<◌}
+use Prim.Native.Nat.{◌+◌, ◌*◌, ◌≤◌, ◌<◌}
 use mathlib.Core.Path.{◌≡◌}
-use native.Mathlib.Omega.{arith}
 use lib.ListN.{length}
-use borrow.Author.Rules.{rules}
-use Rattle.bits.proofs.Turns.{PartWritten, write-start, write-turn, write-end}
+use Rattle.bits.proofs.Turns.{PartWritten}
 use Rattle.bits_out.proofs.store.Given as goal
 
 abbrev pub invariant-loop-left : goal.invariant-loop-left

@@ -5,18 +5,18 @@ use borrow.Author.Rules.{rules}
 use Rattle.bits.proofs.Fields.{field-set, field_below}
 use Rattle.bits_out.proofs.with_field.Goals as goal
 
-module _ (c : goal.After-two_to-values) where
+module _ (c : goal.After-from-old) where
   abbrev unit : ℕ
   unit = c.two_to-unit.result
 
   abbrev upper : ℕ
-  upper = c.args.byte / unit / c.two_to-values.result * c.two_to-values.result + c.args.value % c.two_to-values.result
+  upper = c.from-old.result / unit / c.two_to-values.result * c.two_to-values.result + c.args.value % c.two_to-values.result
 
   -- the new byte is a byte, and so nothing on the way to it is too large
-  below : (upper ≤ upper * unit) × (upper * unit + c.args.byte % unit < 256)
+  below : (upper ≤ upper * unit) × (upper * unit + c.from-old.result % unit < 256)
   below =
       field_below 8 c.args.bit c.args.size _ _ (search rules) c.two_to-unit.ensures.0 c.two_to-values.ensures.0
-      c.args.byte c.args.value (omega arith)
+      c.from-old.result c.args.value (omega arith)
 
 pub overflow_mul-result : goal.overflow_mul-result
 overflow_mul-result c = omega (arith, below c)
@@ -36,4 +36,4 @@ overflow_cast-result c = omega (arith, below c)
 pub returns : goal.returns
 returns c =
     let a = c.args in
-    field-set 8 a.bit a.size _ _ (search rules) c.two_to-unit.ensures.0 c.two_to-values.ensures.0 a.byte a.value
+    rw c.from-old.ensures (field-set 8 a.bit a.size _ _ (search rules) c.two_to-unit.ensures.0 c.two_to-values.ensures.0 a.byte a.value)

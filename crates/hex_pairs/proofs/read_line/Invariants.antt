@@ -1,13 +1,10 @@
--- `read_line` meets its contract: the pairs of the line are those written and those from the place i on.
-use borrow.Author.Rules.{rules}
-use Prim.Native.Nat.{◌-◌}
-use mathlib.Core.Path.{◌≡◌}
-use lib.ListN.{length}
-use Rattle.hex_pairs.proofs.Reading.{Left, pairs_end, pairs-lone, pairs-high, pairs-low, pairs-pair, started, passed, stopped, stored}
+-- `read_line` meets its contract: the pairs of the line are those written and those of what is left.
+use Rattle.std.proofs.Common.{length}
+use Rattle.hex_pairs.proofs.Reading.{Left}
 use Rattle.hex_pairs.proofs.read_line.Given as goal
 
-abbrev pub invariant-loop-i : goal.invariant-loop-i
-invariant-loop-i l = Left l.at l.line l.initial.out l.end l.i l.out × (length l.out ≡ length l.initial.out)
+abbrev pub invariant-loop-left : goal.invariant-loop-left
+invariant-loop-left l = Left l.at l.line l.initial.out l.end l.left l.out
 
-abbrev pub decreases-loop-i : goal.decreases-loop-i
-decreases-loop-i l = length l.line - l.i
+abbrev pub decreases-loop-left : goal.decreases-loop-left
+decreases-loop-left l = length l.left

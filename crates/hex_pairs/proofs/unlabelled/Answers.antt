@@ -1,17 +1,19 @@
--- `unlabelled` meets its contract: where the first six bytes are the label, the line has at least six.
-use native.Mathlib.Omega.{arith}
-use Rattle.hex_pairs.proofs.Labels.{label-fits, label-off, label-none}
-use borrow.Author.Rules.{rules}
+-- `unlabelled` meets its contract: the library's `strip_prefix` takes the label off.
+use Rattle.std.proofs.Common.{◌≡◌, List, ℕ, Option, Some, None, true, false, take, drop, length, ◌+◌, Bor}
+use Rattle.std.specs.Prelude.{MatchOption}
+use Rattle.std.specs.Option.{unwrap_or}
+use Rattle.std.specs.Str.{bytes_eq}
+use Rattle.text.specs.Quoted.{bytes}
+use Rattle.text.proofs.Words.{same_is}
+use Rattle.hex_pairs.specs.Pairs.{unlabelled}
 use Rattle.hex_pairs.proofs.unlabelled.Goals as goal
 
-pub slice_bounds-result-count : goal.slice_bounds-result-count
-slice_bounds-result-count c = label-fits c.args.line.now _ _ c.front.ensures c.same.ensures c.if-same.true
-
-pub slice_bounds-result-start : goal.slice_bounds-result-start
-slice_bounds-result-start c = omega (arith, label-fits c.args.line.now _ _ c.front.ensures c.same.ensures c.if-same.true)
-
-pub returns-then-same : goal.returns-then-same
-returns-then-same c = label-off c.args.line.now _ _ c.front.ensures c.same.ensures c.if-same.true
+taken : (r : Option (Bor (List ℕ))) (line : Bor (List ℕ))
+    → MatchOption r (bytes_eq (take 6 line.now) (bytes "plate,") ≡ false) (λ x. (bytes_eq (take 6 line.now) (bytes "plate,") ≡ true) × (x.now ≡ drop 6 line.now) × (length x.now + 6 ≡ length line.now))
+    → (unwrap_or r line).now ≡ unlabelled line.now
+unfolding unlabelled
+taken None line h = rw (same_is (take 6 line.now) (bytes "plate,"), h)
+taken (Some x) line h = rw (same_is (take 6 line.now) (bytes "plate,"), h.0) h.1
 
 pub returns : goal.returns
-returns c = label-none c.args.line.now _ _ c.front.ensures c.same.ensures c.if-same.false
+returns c = rw c.unwrap_or.ensures (taken c.strip_prefix.result c.args.line c.strip_prefix.ensures.cases)

@@ -2,7 +2,6 @@
 use native.Mathlib.Omega.{arith}
 use Rattle.output.proofs.Pour.{then}
 use Rattle.listing_lines.proofs.LineBytes.{one_field}
-use borrow.Author.Rules.{rules}
 use Rattle.listing_lines.proofs.put_goto.Goals as goal
 
 pub returns : goal.returns

@@ -1,7 +1,6 @@
 -- `put_question` meets its contract: three writings, each where the one before ended, are one.
 use native.Mathlib.Omega.{arith}
 use Rattle.output.proofs.Pour.{then}
-use borrow.Author.Rules.{rules}
 use Rattle.listing_lines.proofs.put_question.Goals as goal
 
 pub returns : goal.returns

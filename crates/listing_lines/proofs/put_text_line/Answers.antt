@@ -1,7 +1,6 @@
 -- `put_text_line` meets its contract: the word, the text and LF, each written where the one before ended.
 use native.Mathlib.Omega.{arith}
 use Rattle.output.proofs.Pour.{then}
-use borrow.Author.Rules.{rules}
 use Rattle.listing_lines.proofs.put_text_line.Goals as goal
 
 pub returns : goal.returns

@@ -1,7 +1,6 @@
 -- `read_with` meets its contract: it is `read_own`, with room where the plate has own phrases.
 use mathlib.Core.List.{[]}
 use Rattle.reader.proofs.OwnFirst.{none-room}
-use borrow.Author.Rules.{rules}
 use Rattle.read_plate.proofs.read_with.Goals as goal
 
 pub read_own-requires-2 : goal.read_own-requires-2

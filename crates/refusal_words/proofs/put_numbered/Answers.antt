@@ -1,7 +1,6 @@
 -- `put_numbered` meets its contract: the words, the number and a colon are written one behind the other.
 use native.Mathlib.Omega.{arith}
 use Rattle.output.proofs.Pour.{then}
-use borrow.Author.Rules.{rules}
 use Rattle.refusal_words.proofs.put_numbered.Goals as goal
 
 pub returns : goal.returns

@@ -1,7 +1,6 @@
 -- `run_with` meets its contract: it is `run_own`, with room where the plate has own phrases.
 use mathlib.Core.List.{[]}
 use Rattle.reader.proofs.OwnFirst.{none-room}
-use borrow.Author.Rules.{rules}
 use Rattle.run.proofs.run_with.Goals as goal
 
 pub run_own-requires-2 : goal.run_own-requires-2

@@ -14,7 +14,7 @@ returns-then-over-gt0 c =
     record { out_after = lay-over _ _ _ _ _ _ (c.go_on.ensures.out_value _ _ _) some; over_value = (c.go_on.ensures.over_value.0 ∙ over-less _ _ _ some, omega (arith, c.go_on.ensures.over_value.2)); next_value = rw c.go_on.ensures.over_value.1 c.accepted_end-next.ensures }
 
 pub accepted_head-head-requires : goal.accepted_head-head-requires
-accepted_head-head-requires c = (c.requires.0.short, instruction-at _ _ _ _ c.requires.1 c.requires.0.short)
+accepted_head-head-requires c = (c.requires.0, instruction-at _ _ _ _ c.requires.1 c.requires.0)
 
 pub perform_head-requires : goal.perform_head-requires
 perform_head-requires c =

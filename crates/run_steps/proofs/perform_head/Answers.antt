@@ -2,15 +2,13 @@
 use mathlib.Core.Path.{refl, ap, ◌∙◌}
 use native.Mathlib.Omega.{arith}
 use Rattle.text.specs.Parts.{join}
-use Rattle.transcript.specs.Statement.{input}
+use Rattle.transcript.specs.Statement.{input, print, printex}
 use Rattle.transcript.specs.State.{line_bytes}
 use Rattle.fields.specs.Places.{end_with}
 use Rattle.statements.proofs.Performs.{lay-perform}
-use Rattle.instructions.proofs.Headed.{input-text, input-is, input-end, goto-is, goto-read, if-is, if-read}
+use Rattle.instructions.proofs.Headed.{input-text, input-is, input-end, print-text, print-is, print-end, printex-text, printex-is, printex-end, goto-is, goto-read, if-is, if-read}
 use Rattle.run_steps.proofs.Performing.{lay-statement, over-statement}
 use Rattle.run_steps.proofs.Meeting.{lay-goto, over-goto, lay-if, over-if}
-use Rattle.transcript.specs.State.{line_bytes}
-use Rattle.text.specs.Parts.{join}
 use borrow.Author.Rules.{rules}
 use Rattle.run_steps.proofs.perform_head.Goals as goal
 
@@ -24,16 +22,16 @@ pub offer-requires : goal.offer-requires
 offer-requires c =
     (search rules, simp c.in-Inputs.is at c.requires.1, rw c.in-Inputs.is at c.requires.2, search rules)
 
-pub show-requires : goal.show-requires
-show-requires c = (search rules, rw c.in-Print.is at c.requires.2, search rules)
+pub put_line-line-requires-in-Print : goal.put_line-line-requires-in-Print
+put_line-line-requires-in-Print c = (search rules, print-text _ _ _ refl c.requires.2 c.in-Print.is)
 
-pub rule-requires : goal.rule-requires
-rule-requires c = (search rules, rw c.in-Printex.is at c.requires.2, search rules)
+pub put_line-line-requires-in-Printex : goal.put_line-line-requires-in-Printex
+put_line-line-requires-in-Printex c = (search rules, printex-text _ _ _ refl c.requires.2 c.in-Printex.is)
 
 pub accepted_if-requires : goal.accepted_if-requires
 accepted_if-requires c =
     let fits = simp c.in-IfSkip.is at c.requires.1 in
-    (c.requires.0.short, fits.0, fits.1)
+    (c.requires.0, fits.0, fits.1)
 
 pub returns-in-Input : goal.returns-in-Input
 unfolding line_bytes join
@@ -45,10 +43,16 @@ pub returns-in-Inputs : goal.returns-in-Inputs
 returns-in-Inputs c = rw c.in-Inputs.is record { out_after = c.offer.ensures.out_after; over_value = (c.offer.ensures.steps_bound.0 _, c.offer.ensures.steps_bound.1); next_value = c.offer.ensures.next_value }
 
 pub returns-in-Print : goal.returns-in-Print
-returns-in-Print c = rw c.in-Print.is record { out_after = c.show.ensures.out_after _ _; over_value = (c.show.ensures.steps_value.0 _, omega (arith, c.show.ensures.steps_value.1)); next_value = c.show.ensures.next_value }
+unfolding line_bytes join
+returns-in-Print c =
+    let is = print-is _ _ _ refl c.requires.2 c.in-Print.is in
+    record { out_after = lay-statement is _ _ _ _ (lay-perform _ _ _ (print _) _ _ _ _ _ c.put_line-line-in-Print.ensures.out_after (c.leave.ensures.out_value _ _ _) (omega (arith, c.well_formed))); over_value = (c.leave.ensures.over_value.0 ∙ over-statement is _, omega (arith, c.leave.ensures.over_value.2)); next_value = rw c.leave.ensures.over_value.1 c.put_line-line-in-Print.ensures.next_value ∙ print-end _ _ _ refl c.in-Print.is }
 
 pub returns-in-Printex : goal.returns-in-Printex
-returns-in-Printex c = rw c.in-Printex.is record { out_after = c.rule.ensures.out_after _ _; over_value = (c.rule.ensures.steps_value.0 _, omega (arith, c.rule.ensures.steps_value.1)); next_value = c.rule.ensures.next_value }
+unfolding line_bytes join
+returns-in-Printex c =
+    let is = printex-is _ _ _ refl c.requires.2 c.in-Printex.is in
+    record { out_after = lay-statement is _ _ _ _ (lay-perform _ _ _ (printex _) _ _ _ _ _ c.put_line-line-in-Printex.ensures.out_after (c.leave-in-Printex.ensures.out_value _ _ _) (omega (arith, c.well_formed))); over_value = (c.leave-in-Printex.ensures.over_value.0 ∙ over-statement is _, omega (arith, c.leave-in-Printex.ensures.over_value.2)); next_value = rw c.leave-in-Printex.ensures.over_value.1 c.put_line-line-in-Printex.ensures.next_value ∙ printex-end _ _ _ refl c.in-Printex.is }
 
 pub returns-in-Goto : goal.returns-in-Goto
 returns-in-Goto c =

@@ -1,21 +1,13 @@
--- `well_formed` meets its contract: ASCII at the front is passed sixteen bytes at a time.
-use borrow.Author.Rules.{rules}
-use Prim.Native.Nat.{◌≤◌, ◌-◌}
-use mathlib.Core.Path.{◌≡◌, refl, sym, ◌∙◌}
-use lib.ListN.{length, drop}
-use borrow.Author.Tests.{not-false}
+-- `well_formed` meets its contract: what is due and the bytes left are well-formed where the whole is.
+use Rattle.std.proofs.Common.{refl, sym, ◌∙◌}
 use Rattle.text.specs.Utf8.{well_formed}
-use Rattle.utf8.proofs.Steps.{past_ascii}
+use Rattle.utf8.specs.Due.{due_of}
+use Rattle.utf8.proofs.Steps.{step_end, at-end}
 use Rattle.utf8.proofs.well_formed.Goals as goal
 
-pub loop-a-init : goal.loop-a-init
-loop-a-init c = (search rules, refl)
-
-pub returns-then-not-are_ascii : goal.returns-then-not-are_ascii
-returns-then-not-are_ascii c = c.letters_from.ensures ∙ c.loop-a.invariant.1
+pub loop-b-init : goal.loop-b-init
+unfolding well_formed
+loop-b-init c = refl
 
 pub returns : goal.returns
-returns c = c.letters_from-2.ensures ∙ c.loop-a.invariant.1
-
-pub loop-a-preserved : goal.loop-a-preserved
-loop-a-preserved c = (search rules, sym (past_ascii c.args.s.now c.loop-a.a (sym c.are_ascii.ensures ∙ c.if-not-are_ascii.false)) ∙ c.loop-a.invariant.1)
+returns c = let due = c.loop-b.due in sym (sym c.loop-b.invariant ∙ at-end _ _ (due_of due) c.loop-b-test.false ∙ step_end due.count due.least due.most)

@@ -1,6 +1,5 @@
 -- `accepted_fields` meets its contract, kind by kind.
 use mathlib.Core.Path.{refl}
-use borrow.Author.Rules.{rules}
 use Rattle.text.specs.Parts.{comma, parts_from}
 use Rattle.transcript.specs.Statement.{print, printex}
 use Rattle.lines.specs.Line.{says, else_line, fi_line}
@@ -52,6 +51,3 @@ returns-in-Fi c = head-of-kind _ _ c.in-Fi.is (bare-clean c.args.form fi_line _ 
 
 pub returns-in-Goto : goal.returns-in-Goto
 returns-in-Goto c = head-of-kind _ _ c.in-Goto.is c.accepted_goto.ensures
-
-pub returns-in-Unknown : goal.returns-in-Unknown
-returns-in-Unknown c = head-of-kind _ _ c.in-Unknown.is refl

@@ -1,6 +1,3 @@
-use Rattle.text.specs.Parts.{split}
-use Rattle.lines.specs.Words.{kind_of}
-use borrow.Author.Rules.{rules}
 -- `accepted_kind` meets its contract: the line begins with its kind's word.
 use borrow.Author.Tests.{eq-eqb, ne_eqb}
 use Rattle.accepted_lines.proofs.Begins.{begins, kind-two, kind-six, kind-goto}

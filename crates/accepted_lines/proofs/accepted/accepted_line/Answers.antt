@@ -1,6 +1,5 @@
 -- `accepted_line` meets its contract: the fields begin behind the kind's word.
 use mathlib.Core.Path.{sym, ap, ◌∙◌}
-use borrow.Author.Rules.{rules}
 use Rattle.lines.specs.Answers.{head_of}
 use Rattle.lines.specs.Clean.{is_clean}
 use Rattle.accepted_lines.proofs.Begins.{line-by-word}

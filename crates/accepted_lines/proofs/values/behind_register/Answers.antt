@@ -25,13 +25,13 @@ returns-then-s-a-eq44 c =
     let n = (k.single c.if-s-a-eq44.true).1 in
     (n, field-behind _ _ _ c.requires.1 n)
 
-pub overflow_add-result-2 : goal.overflow_add-result-2
-overflow_add-result-2 c =
+pub overflow_add-result-else-s-a-eq44 : goal.overflow_add-result-else-s-a-eq44
+overflow_add-result-else-s-a-eq44 c =
     let k = known-register c.args.s.now c.args.a c.requires.0.0 c.requires.0.1 c.requires.1 in
     search rules
 
-pub returns : goal.returns
-returns c =
+pub returns-else-s-a-eq44 : goal.returns-else-s-a-eq44
+returns-else-s-a-eq44 c =
     let k = known-register c.args.s.now c.args.a c.requires.0.0 c.requires.0.1 c.requires.1 in
     let n = (k.double c.if-s-a-eq44.false).2 in
     (n, field-behind _ _ _ c.requires.1 n)

@@ -2,7 +2,7 @@
 use Prim.Native.Nat.{◌-◌}
 use native.Mathlib.Omega.{arith}
 use mathlib.Core.Path.{sym, ap, ◌∙◌}
-use mathlib.Core.Option.{some}
+use Rattle.std.specs.Prelude.{Some}
 use lib.IntN.{pos, negsuc}
 use mir.Syntax.{w32}
 use mir.Facts.{to_z_pos}
@@ -39,7 +39,7 @@ overflow_cast-result c =
 pub returns-then-s-a-eq45 : goal.returns-then-s-a-eq45
 returns-then-s-a-eq45 c =
     let k = known-below c.args.s.now c.args.a c.requires.0 c.requires.1 c.if-s-a-eq45.true in
-    record { s_value = simp (minus-bits (c.known_number-n.result.value - 1) (omega (arith, k.number.digits.1, c.known_number-n.ensures.value_value))) (c.requires.1 ∙ ap some (k.value ∙ ap (λ n. negsuc (n - 1)) (sym c.known_number-n.ensures.value_value))); s_value_2 = c.known_number-n.ensures.s_value ∙ k.rest }
+    record { s_value = simp (minus-bits (c.known_number-n.result.value - 1) (omega (arith, k.number.digits.1, c.known_number-n.ensures.value_value))) (c.requires.1 ∙ ap Some (k.value ∙ ap (λ n. negsuc (n - 1)) (sym c.known_number-n.ensures.value_value))); s_value_2 = c.known_number-n.ensures.s_value ∙ k.rest }
 
 pub known_number-n-requires-2 : goal.known_number-n-requires-2
 known_number-n-requires-2 c =
@@ -54,4 +54,4 @@ overflow_cast-result-2 c =
 pub returns : goal.returns
 returns c =
     let k = known-plain c.args.s.now c.args.a c.requires.0 c.requires.1 c.if-s-a-eq45.false in
-    record { s_value = simp (to_z_pos w32 {n = c.known_number-n-2.result.value} (omega (arith, k.most, c.known_number-n-2.ensures.value_value))) (c.requires.1 ∙ ap some (k.value ∙ ap pos (sym c.known_number-n-2.ensures.value_value))); s_value_2 = c.known_number-n-2.ensures.s_value }
+    record { s_value = simp (to_z_pos w32 {n = c.known_number-n-2.result.value} (omega (arith, k.most, c.known_number-n-2.ensures.value_value))) (c.requires.1 ∙ ap Some (k.value ∙ ap pos (sym c.known_number-n-2.ensures.value_value))); s_value_2 = c.known_number-n-2.ensures.s_value }

@@ -1,7 +1,6 @@
 -- `known_register` meets its contract: a comma behind the first digit tells one digit from two.
-use Prim.Native.Nat.{◌+◌}
-use mathlib.Core.Path.{ap, ◌∙◌}
-use mathlib.Core.Option.{some}
+use mathlib.Core.Path.{sym, ap, ◌∙◌}
+use Rattle.std.specs.Prelude.{Some}
 use native.Mathlib.Omega.{arith}
 use borrow.Author.Rules.{rules}
 use Rattle.accepted_lines.proofs.KnownValues.{known-register}
@@ -10,64 +9,46 @@ use Rattle.accepted_lines.proofs.values.known_register.Goals as goal
 pub bounds-s-a : goal.bounds-s-a
 bounds-s-a c =
     let k = known-register c.args.s.now c.args.a c.requires.0.0 c.requires.0.1 c.requires.1 in
-    search rules
+    omega (arith, k.there)
 
-pub overflow_sub-first : goal.overflow_sub-first
-overflow_sub-first c =
-    let k = known-register c.args.s.now c.args.a c.requires.0.0 c.requires.0.1 c.requires.1 in
-    search rules
+pub overflow_sub-s : goal.overflow_sub-s
+overflow_sub-s c = (known-register c.args.s.now c.args.a c.requires.0.0 c.requires.0.1 c.requires.1).low
 
-pub overflow_cast-first : goal.overflow_cast-first
-overflow_cast-first c =
-    let k = known-register c.args.s.now c.args.a c.requires.0.0 c.requires.0.1 c.requires.1 in
-    omega (arith, c.shared_slice_known-1.given c.args.a)
-
-pub overflow_add-b : goal.overflow_add-b
-overflow_add-b c =
+pub overflow_add-a : goal.overflow_add-a
+overflow_add-a c =
     let k = known-register c.args.s.now c.args.a c.requires.0.0 c.requires.0.1 c.requires.1 in
     search rules
 
 pub bounds-s-a-2 : goal.bounds-s-a-2
-bounds-s-a-2 c =
+bounds-s-a-2 c = (known-register c.args.s.now c.args.a c.requires.0.0 c.requires.0.1 c.requires.1).there
+
+pub overflow_sub-b : goal.overflow_sub-b
+overflow_sub-b c =
+    let k = known-register c.args.s.now c.args.a c.requires.0.0 c.requires.0.1 c.requires.1 in
+    (k.double (λ e. omega arith)).0
+
+pub overflow_add-result-in_default-2 : goal.overflow_add-result-in_default-2
+overflow_add-result-in_default-2 c =
     let k = known-register c.args.s.now c.args.a c.requires.0.0 c.requires.0.1 c.requires.1 in
     search rules
 
-pub overflow_add-result : goal.overflow_add-result
-overflow_add-result c =
+pub returns-in-44-clause-s_value : goal.returns-in-44-clause-s_value
+returns-in-44-clause-s_value c =
     let k = known-register c.args.s.now c.args.a c.requires.0.0 c.requires.0.1 c.requires.1 in
-    search rules
+    c.requires.0.1 ∙ ap Some ((k.single c.in-44.is).0 ∙ sym c.from-first.ensures)
 
-pub returns-then-b-eq44 : goal.returns-then-b-eq44
-returns-then-b-eq44 c =
+pub returns-in-44-clause-s_value_2 : goal.returns-in-44-clause-s_value_2
+returns-in-44-clause-s_value_2 c =
     let k = known-register c.args.s.now c.args.a c.requires.0.0 c.requires.0.1 c.requires.1 in
-    record { s_value = c.requires.0.1 ∙ ap some (k.single c.if-b-eq44.true).0; s_value_2 = (k.single c.if-b-eq44.true).1 }
+    (k.single c.in-44.is).1
 
-pub overflow_mul-result : goal.overflow_mul-result
-overflow_mul-result c =
+pub returns-in_default-clause-s_value : goal.returns-in_default-clause-s_value
+returns-in_default-clause-s_value c =
     let k = known-register c.args.s.now c.args.a c.requires.0.0 c.requires.0.1 c.requires.1 in
-    let m = k.double c.if-b-eq44.false in omega (arith, c.shared_slice_known-1.given c.args.a, c.shared_slice_known-2-1.given (c.args.a + 1))
+    let v = (k.double (λ e. omega arith)).1 in
+    c.requires.0.1 ∙ ap Some (omega (arith, v, c.from-first.ensures, c.from.ensures))
 
-pub overflow_sub-result : goal.overflow_sub-result
-overflow_sub-result c =
+pub returns-in_default-clause-s_value_2 : goal.returns-in_default-clause-s_value_2
+returns-in_default-clause-s_value_2 c =
     let k = known-register c.args.s.now c.args.a c.requires.0.0 c.requires.0.1 c.requires.1 in
-    let m = k.double c.if-b-eq44.false in search rules
-
-pub overflow_cast-result : goal.overflow_cast-result
-overflow_cast-result c =
-    let k = known-register c.args.s.now c.args.a c.requires.0.0 c.requires.0.1 c.requires.1 in
-    let m = k.double c.if-b-eq44.false in omega (arith, c.shared_slice_known-1.given c.args.a, c.shared_slice_known-2-1.given (c.args.a + 1))
-
-pub overflow_add-result-2 : goal.overflow_add-result-2
-overflow_add-result-2 c =
-    let k = known-register c.args.s.now c.args.a c.requires.0.0 c.requires.0.1 c.requires.1 in
-    let m = k.double c.if-b-eq44.false in omega (arith, c.shared_slice_known-1.given c.args.a, c.shared_slice_known-2-1.given (c.args.a + 1))
-
-pub overflow_add-result-3 : goal.overflow_add-result-3
-overflow_add-result-3 c =
-    let k = known-register c.args.s.now c.args.a c.requires.0.0 c.requires.0.1 c.requires.1 in
-    let m = k.double c.if-b-eq44.false in search rules
-
-pub returns : goal.returns
-returns c =
-    let k = known-register c.args.s.now c.args.a c.requires.0.0 c.requires.0.1 c.requires.1 in
-    let m = k.double c.if-b-eq44.false in record { s_value = c.requires.0.1 ∙ ap some m.1; s_value_2 = m.2 }
+    (k.double (λ e. omega arith)).2

@@ -1,65 +1,52 @@
 -- `check_lines` meets its contract: the n lines before a have no cause, s and the array are held of them, and their own phrases have
 -- their numbers.
-use Rattle.lines.specs.Check.{check_from}
-use Prim.Native.Nat.{◌-◌}
+use Prim.Native.Nat.{◌+◌}
 use mathlib.Core.Path.{refl, sym, ap, ◌∙◌}
-use native.Mathlib.Omega.{arith}
-use lib.ListN.{length}
 use borrow.Author.Rules.{rules}
-use Rattle.phrases.specs.Lookup.{book_texts}
 use Rattle.lines.specs.Answers.{checked_answer}
-use Rattle.check_lines.specs.Numbers.{Numbered}
-use Rattle.check_lines.proofs.LinesPassed.{Passed, passed_none, own-count, passed-end, unended, line_refused, passing, line-passed}
-use Rattle.check_lines.proofs.NumbersOn.{numbered-none, listed-end, enters, numbered_next, not-fine}
+use Rattle.check_lines.proofs.LinesPassed.{passed_none, own-count, passed-end, unended, line_refused, line-head, passing, line-passed}
+use Rattle.check_lines.proofs.NumbersOn.{numbered-none, enters, numbered_next}
+use Rattle.check_lines.proofs.Judged.{mapped-head, mapped-refusal}
+use Rattle.std.proofs.lemmas.Result.{err_from_is_err_and}
 use Rattle.check_lines.proofs.checking.check_lines.Goals as goal
 
 pub loop-a-init : goal.loop-a-init
 loop-a-init c = (passed_none _ _ _ _ refl, numbered-none _ _ _ _ c.requires.0 c.requires.1)
 
-pub shape_of-index-then-e-text : goal.shape_of-index-then-e-text
-shape_of-index-then-e-text c = c.loop-a.invariant.1.size
-
-pub cause_of-requires : goal.cause_of-requires
-cause_of-requires c =
-    (c.loop-a.invariant.1.indexed, c.loop-a.invariant.1.numbers, c.loop-a.invariant.0.sound)
-
-pub shape_of-index-in-Is : goal.shape_of-index-in-Is
-shape_of-index-in-Is c = c.loop-a.invariant.1.size
-
 pub enter_phrase-requires : goal.enter_phrase-requires
 enter_phrase-requires c =
-    let p = passing c.loop-a.invariant.0 c.find-e.ensures.value c.find-e.ensures.upper_bound c.if-e-text.false c.read_line-head.ensures c.cause_of.ensures c.in_default.is in
-    λ h. enters c.loop-a.invariant.0 c.loop-a.invariant.1 c.find-e.ensures.value c.find-e.ensures.upper_bound c.if-e-text.false c.read_line-head.ensures p h
+    let j = rw c.new-known.ensures at c.judge_line.ensures in
+    let i = mapped-head _ c.in_ok-head.ensures.cases in
+    let z = line-head c.loop-a.invariant.0 c.find-e.ensures.value c.find-e.ensures.upper_bound c.if-e-text.false j i in
+    λ h. enters c.loop-a.invariant.0 c.loop-a.invariant.1 c.find-e.ensures.value c.find-e.ensures.upper_bound c.if-e-text.false z (passing c.loop-a.invariant.0 c.find-e.ensures.value c.find-e.ensures.upper_bound c.if-e-text.false j i) h
 
 pub advance-s-requires : goal.advance-s-requires
 advance-s-requires c =
-    (passing c.loop-a.invariant.0 c.find-e.ensures.value c.find-e.ensures.upper_bound c.if-e-text.false c.read_line-head.ensures c.cause_of.ensures c.in_default.is, c.loop-a.invariant.0.sound)
-
-pub overflow_add-n-in-loop-a : goal.overflow_add-n-in-loop-a
-overflow_add-n-in-loop-a c = omega (arith, c.loop-a-test.true, c.loop-a.invariant.0.few, c.well_formed)
+    let j = rw c.new-known.ensures at c.judge_line.ensures in
+    (passing c.loop-a.invariant.0 c.find-e.ensures.value c.find-e.ensures.upper_bound c.if-e-text.false j (mapped-head _ c.in_ok-head.ensures.cases), c.loop-a.invariant.0.sound)
 
 pub loop-a-preserved : goal.loop-a-preserved
 loop-a-preserved c =
-    let p = passing c.loop-a.invariant.0 c.find-e.ensures.value c.find-e.ensures.upper_bound c.if-e-text.false c.read_line-head.ensures c.cause_of.ensures c.in_default.is in
-    let g = line-passed c.loop-a.invariant.0 c.find-e.ensures.value c.find-e.ensures.upper_bound c.if-e-text.false c.read_line-head.ensures c.cause_of.ensures c.in_default.is _ _ c.advance-s.ensures in
-    (g, numbered_next c.loop-a.invariant.0 c.loop-a.invariant.1 c.find-e.ensures.value c.find-e.ensures.upper_bound c.if-e-text.false (own-count g) _ c.read_line-head.ensures p c.advance-s.ensures c.enter_phrase.ensures)
-
-pub at_end-requires : goal.at_end-requires
-at_end-requires c = c.loop-a.invariant.0.sound
-
-pub shape_of-index : goal.shape_of-index
-shape_of-index c = c.loop-a.invariant.1.size
+    let j = rw c.new-known.ensures at c.judge_line.ensures in
+    let i = mapped-head _ c.in_ok-head.ensures.cases in
+    let z = line-head c.loop-a.invariant.0 c.find-e.ensures.value c.find-e.ensures.upper_bound c.if-e-text.false j i in
+    let p = passing c.loop-a.invariant.0 c.find-e.ensures.value c.find-e.ensures.upper_bound c.if-e-text.false j i in
+    let g = line-passed c.loop-a.invariant.0 c.find-e.ensures.value c.find-e.ensures.upper_bound c.if-e-text.false j i _ _ c.advance-s.ensures in (
+      g,
+      numbered_next c.loop-a.invariant.0 c.loop-a.invariant.1 c.find-e.ensures.value c.find-e.ensures.upper_bound c.if-e-text.false (own-count g) _ z p
+          c.advance-s.ensures c.enter_phrase.ensures,
+    )
 
 pub returns-then-e-text-clause-value : goal.returns-then-e-text-clause-value
 returns-then-e-text-clause-value c =
     sym (ap checked_answer (unended c.loop-a.invariant.0 c.find-e.ensures.value c.loop-a-test.true c.if-e-text.true))
 
-pub returns-in-Is-clause-value : goal.returns-in-Is-clause-value
-returns-in-Is-clause-value c =
-    sym
-    (ap
-    checked_answer
-    (line_refused c.loop-a.invariant.0 c.find-e.ensures.value c.find-e.ensures.upper_bound c.if-e-text.false c.read_line-head.ensures c.cause_of.ensures c.in-Is.is))
+pub returns-in_err-head-clause-value : goal.returns-in_err-head-clause-value
+returns-in_err-head-clause-value c =
+    let j = rw c.new-known.ensures at c.judge_line.ensures in
+    let m = mapped-refusal (c.loop-a.n + 1) _ c.map_err.result _ c.map_err.ensures.cases (λ e d k. search rules) c.in_err-head.was in
+    let p = err_from_is_err_and c.from_residual.result c.from_residual.ensures.1 in
+    rw (p.1, p.2, m.2) (sym (ap checked_answer (line_refused c.loop-a.invariant.0 c.find-e.ensures.value c.find-e.ensures.upper_bound c.if-e-text.false j m.1)))
 
 pub returns-clause-value : goal.returns-clause-value
 returns-clause-value c =

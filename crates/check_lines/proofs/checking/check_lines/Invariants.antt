@@ -1,15 +1,10 @@
 -- `check_lines` meets its contract: the n lines before a have no cause, s and the array are held of them, and their own phrases have
 -- their numbers.
 use Prim.Native.Nat.{◌-◌}
-use mathlib.Core.Path.{refl, sym, ap, ◌∙◌}
-use native.Mathlib.Omega.{arith}
 use lib.ListN.{length}
-use borrow.Author.Rules.{rules}
 use Rattle.phrases.specs.Lookup.{book_texts}
-use Rattle.lines.specs.Answers.{checked_answer}
 use Rattle.check_lines.specs.Numbers.{Numbered}
-use Rattle.check_lines.proofs.LinesPassed.{Passed, passed_none, own-count, passed-end, unended, line_refused, passing, line-passed}
-use Rattle.check_lines.proofs.NumbersOn.{numbered-none, listed-end, enters, numbered_next, not-fine}
+use Rattle.check_lines.proofs.LinesPassed.{Passed}
 use Rattle.check_lines.proofs.checking.check_lines.Given as goal
 
 abbrev pub invariant-loop-a : goal.invariant-loop-a

@@ -5,5 +5,5 @@ use Rattle.check_lines.proofs.fault.fi_fault.Goals as goal
 pub returns-then-s-eq0 : goal.returns-then-s-eq0
 returns-then-s-eq0 c = λ os. simp (none_open os _ c.if-s-eq0.true)
 
-pub returns : goal.returns
-returns c = λ os. simp (innermost os _ c.if-s-eq0.false)
+pub returns-else-s-eq0 : goal.returns-else-s-eq0
+returns-else-s-eq0 c = λ os. simp (innermost os _ c.if-s-eq0.false)

@@ -1,6 +1,5 @@
 -- `if_fault` meets its contract: 16 ifs may be open, and there is room.
 use borrow.Author.Tests.{lt-ltb, le-ltb}
-use borrow.Author.Rules.{rules}
 use Rattle.check_lines.proofs.OpenIfs.{depth_is}
 use Rattle.check_lines.proofs.fault.if_fault.Goals as goal
 

@@ -1,5 +1,4 @@
 -- `enter_phrase` meets its contract: the text stands 7 bytes behind the line's start.
-use Rattle.check_lines.specs.Numbers.{entered}
 use mathlib.Core.Path.{sym, ◌∙◌}
 use native.Mathlib.Omega.{arith}
 use borrow.Author.Rules.{rules}

@@ -1,8 +1,5 @@
 -- `advance` meets its contract, head by head: a line with no cause finds room.
-use mathlib.Core.Path.{refl}
-use borrow.Author.Rules.{rules}
-use Rattle.check_lines.proofs.Heads.{counts}
-use Rattle.check_lines.proofs.Room.{phrase-room, if-room, else-has-if, fi-has-if, counts-room}
+use Rattle.check_lines.proofs.Room.{phrase-room, if-room, else-has-if, fi-has-if}
 use Rattle.check_lines.proofs.seen.advance.Goals as goal
 
 pub one_more_phrase-requires : goal.one_more_phrase-requires
@@ -28,6 +25,3 @@ returns-in-Else c = λ x. simp c.in-Else.is (c.turned.ensures c.args.n)
 
 pub returns-in-Fi : goal.returns-in-Fi
 returns-in-Fi c = λ x. simp c.in-Fi.is (c.closed.ensures c.args.n c.args.opens.now c.requires.1)
-
-pub returns-in-Faulty : goal.returns-in-Faulty
-returns-in-Faulty c = λ x. simp c.in-Faulty.is (record { holds = λ own e. record { own = e; rest = refl }; sound = c.requires.1 })

@@ -1,6 +1,5 @@
 -- `closed` meets its contract: the innermost if is open no more.
 use native.Mathlib.Omega.{arith}
-use borrow.Author.Rules.{rules}
 use Rattle.check_lines.proofs.OpenIfs.{innermost}
 use Rattle.check_lines.proofs.seen.closed.Goals as goal
 

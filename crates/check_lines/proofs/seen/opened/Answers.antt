@@ -2,7 +2,6 @@
 use native.Mathlib.Numerals.{add-one}
 use native.Mathlib.Omega.{arith}
 use lib.ListN.{length-set}
-use borrow.Author.Rules.{rules}
 use Rattle.check_lines.proofs.OpenIfs.{one-more-open}
 use Rattle.check_lines.proofs.seen.opened.Goals as goal
 

@@ -2,7 +2,6 @@
 use native.Mathlib.Numerals.{add-one}
 use native.Mathlib.Omega.{arith}
 use lib.ListN.{length-set}
-use borrow.Author.Rules.{rules}
 use Rattle.check_lines.proofs.OpenIfs.{innermost, innermost-turned}
 use Rattle.check_lines.proofs.seen.turned.Goals as goal
 

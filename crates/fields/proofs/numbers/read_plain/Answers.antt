@@ -1,7 +1,6 @@
 -- `read_plain` meets its contract: the bits are there, or the plate ends inside the number.
 use mathlib.Core.Path.{sym, ◌∙◌}
 use native.Mathlib.Omega.{arith}
-use borrow.Author.Rules.{rules}
 use Rattle.fields.proofs.Onward.{number-there, number_cut, number-end}
 use Rattle.fields.proofs.numbers.read_plain.Goals as goal
 
@@ -13,8 +12,8 @@ overflow_add-result c = let a = c.args in
     omega (
       arith,
       number-end a.plate.now a.at a.width _
-          (sym c.read_number.ensures ∙ c.in-Is.is),
+          (sym c.read_number.ensures ∙ c.in-Some.is),
     )
 
 pub returns : goal.returns
-returns c = number-there _ _ _ _ (sym c.read_number.ensures ∙ c.in-Is.is)
+returns c = number-there _ _ _ _ (sym c.read_number.ensures ∙ c.in-Some.is)

@@ -1,6 +1,5 @@
 -- `read_skip` meets its contract: it is a judged number.
 use Rattle.fields.specs.Places.{place_at}
-use borrow.Author.Rules.{rules}
 use Rattle.plate.specs.Plate.{skip}
 use Rattle.fields.proofs.numbers.read_skip.Goals as goal
 

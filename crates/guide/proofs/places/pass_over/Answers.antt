@@ -1,12 +1,7 @@
 -- `pass_over` meets its contract: what is left to pass from `at` on, with `depth` ifs open, is what was to pass from a on.
 use borrow.Author.Rules.{rules}
-use Prim.Native.Nat.{◌≤◌, ◌-◌}
-use mathlib.Core.Path.{◌≡◌, refl, sym, ◌∙◌}
+use mathlib.Core.Path.{refl, sym, ◌∙◌}
 use native.Mathlib.Omega.{arith}
-use lib.ListN.{length, drop}
-use Rattle.lines.specs.declared.Form.TheVariants.{Guide as a_guide}
-use Rattle.lines.specs.Clean.{Clean}
-use Rattle.guide.specs.Lines.{lines_at, pass}
 use Rattle.guide.proofs.Passing.{pass-stops, pass-goes, pass-further, open_more}
 use Rattle.guide.proofs.places.pass_over.Goals as goal
 

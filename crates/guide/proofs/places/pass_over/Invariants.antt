@@ -1,13 +1,10 @@
 -- `pass_over` meets its contract: what is left to pass from `at` on, with `depth` ifs open, is what was to pass from a on.
-use borrow.Author.Rules.{rules}
 use Prim.Native.Nat.{◌≤◌, ◌-◌}
-use mathlib.Core.Path.{◌≡◌, refl, sym, ◌∙◌}
-use native.Mathlib.Omega.{arith}
+use mathlib.Core.Path.{◌≡◌}
 use lib.ListN.{length, drop}
 use Rattle.lines.specs.declared.Form.TheVariants.{Guide as a_guide}
 use Rattle.lines.specs.Clean.{Clean}
 use Rattle.guide.specs.Lines.{lines_at, pass}
-use Rattle.guide.proofs.Passing.{pass-stops, pass-goes, pass-further, open_more}
 use Rattle.guide.proofs.places.pass_over.Given as goal
 
 abbrev pub invariant-loop-h : goal.invariant-loop-h

@@ -1,5 +1,4 @@
 -- `role_in` meets its contract: the first field is the kind.
-use borrow.Author.Rules.{rules}
 use Rattle.lines.specs.declared.Form.TheVariants.{Guide as a_guide}
 use Rattle.guide.proofs.Reading.{role-by-kind}
 use Rattle.guide.proofs.places.role_in.Goals as goal

@@ -1,11 +1,10 @@
 -- `accepted_head` meets its contract: the code, which is good where the instruction is, then the fields that it calls for.
-use Prim.Native.Nat.{ℕ, ◌+◌}
+use Prim.Native.Nat.{◌+◌}
 use mathlib.Core.Path.{◌≡◌, refl, ◌∙◌}
 use native.Mathlib.Omega.{arith}
-use Rattle.phrases.specs.Phrases.{Phrases}
 use Rattle.plate.specs.Reading.{got, number, return}
-use Rattle.plate.specs.Plate.{instruction, skip}
-use Rattle.fields.specs.Places.{place_at, Known}
+use Rattle.plate.specs.Plate.{skip}
+use Rattle.fields.specs.Places.{place_at}
 use Rattle.fields.proofs.Onward.{then-got}
 use Rattle.plate_texts.proofs.Known.{known_same, known-first}
 use Rattle.instructions.specs.Heads.{headed}
@@ -37,4 +36,4 @@ returns-in-4 c = record { result_value = λ ph behind w. let there : got c.part_
 
 pub returns-in_default : goal.returns-in_default
 unfolding headed
-returns-in_default c = record { result_value = λ ph behind w. let there : got c.part_ahead.result (place_at c.args.plate.now (c.args.at + 3)) ≡ number 3 (place_at c.args.plate.now c.args.at) = part-read _ _ c.read_ahead-ahead.ensures 0 3 (omega arith) c.part_ahead.ensures.0 _ _ (omega arith) (omega arith) (code-known _ _ _ _ w) in by_code _ _ _ _ w 5 there (fields-last _ _ _ _ c.in_default.in_default-own.rest.0.0.0.0.1 c.in_default.in_default-own.rest.0.0.0.1 c.in_default.in_default-own.rest.0.0.1 c.in_default.in_default-own.rest.0.1 c.in_default.in_default-own.rest.1) (if-same ph behind _); head_fits = search rules }
+returns-in_default c = record { result_value = λ ph behind w. let there : got c.part_ahead.result (place_at c.args.plate.now (c.args.at + 3)) ≡ number 3 (place_at c.args.plate.now c.args.at) = part-read _ _ c.read_ahead-ahead.ensures 0 3 (omega arith) c.part_ahead.ensures.0 _ _ (omega arith) (omega arith) (code-known _ _ _ _ w) in by_code _ _ _ _ w 5 there (fields-last _ _ _ c.part_ahead.result (omega arith) (omega arith) (omega arith) (omega arith) (omega arith)) (if-same ph behind _); head_fits = search rules }

@@ -6,7 +6,6 @@ use Rattle.bits.specs.Ahead.{part_ahead}
 use Rattle.plate.specs.Plate.{signed}
 use Rattle.plate_constants.proofs.SignedRead.{held}
 use Rattle.fields.proofs.Ahead.{part-below}
-use borrow.Author.Rules.{rules}
 use Rattle.instructions.proofs.heads.long_if.Goals as goal
 
 pub long_constant-constant-requires : goal.long_constant-constant-requires

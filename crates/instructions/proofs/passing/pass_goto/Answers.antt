@@ -1,16 +1,17 @@
 -- `pass_goto` meets its contract: the skip.
-use mathlib.Core.Path.{ap, ◌∙◌}
-use borrow.Author.Rules.{rules}
+use Rattle.std.proofs.Common.{ap, ◌∙◌}
 use Rattle.plate.specs.Reading.{return}
 use Rattle.fields.specs.Places.{field_read, measured}
+use Rattle.fields.proofs.Exits.{handed-on}
 use Rattle.fields.proofs.Onward.{then-got, then-stopped}
-use Rattle.fields.proofs.Answers.{field-got, field-refused}
 use Rattle.instructions.proofs.FieldsRead.{room_of}
 use Rattle.instructions.proofs.passing.pass_goto.Goals as goal
 
-pub returns-in_default : goal.returns-in_default
-returns-in_default c = λ book own count. ap (field_read _) c.in_default.is ∙ ap (measured room_of) (then-stopped _ _ _ (field-refused _ _ c.read_skip-first.ensures c.in_default.is))
+pub returns-in_err-skip : goal.returns-in_err-skip
+returns-in_err-skip c = λ p.
+    handed-on (field_read _) c.from_residual.result c.from_residual.ensures.1
+    ∙ ap (measured room_of) (then-stopped _ _ _ c.in_err-skip.ensures)
 
 pub returns : goal.returns
 unfolding return
-returns c = λ book own count. ap (measured room_of) (then-got _ _ _ (field-got _ _ c.read_skip-first.ensures c.in-Is.is))
+returns c = λ p. ap (measured room_of) (then-got _ _ _ c.in_ok-skip.ensures)

@@ -1,39 +1,38 @@
 -- `pass_inputs` meets its contract: four fields, one after the other.
-use mathlib.Core.Path.{ap, ◌∙◌}
-use native.Mathlib.Omega.{arith}
-use borrow.Author.Rules.{rules}
-use Rattle.plate.specs.Reading.{return}
+use Rattle.std.proofs.Common.{ap, ◌∙◌, arith}
 use Rattle.plate.proofs.Readers.{gives-number, gives-judged}
 use Rattle.fields.specs.Places.{field_read, measured}
+use Rattle.fields.proofs.Exits.{handed-on}
 use Rattle.fields.proofs.Onward.{then-got, then-stopped, got-good}
-use Rattle.fields.proofs.Answers.{field-got, field-refused}
 use Rattle.plate_texts.proofs.Ended.{measured-some, measured-stopped}
 use Rattle.plate_texts.proofs.OptionsRead.{options-read}
 use Rattle.instructions.proofs.FieldsRead.{room_of, options-refused, inputs-sized}
 use Rattle.instructions.proofs.passing.pass_inputs.Goals as goal
 
-pub returns-in_default : goal.returns-in_default
-returns-in_default c = ap (field_read _) c.in_default.is ∙ ap (measured room_of) (then-stopped _ _ _ (field-refused _ _ c.read_plain-first.ensures c.in_default.is))
+pub returns-in_err-register : goal.returns-in_err-register
+returns-in_err-register c =
+    handed-on (field_read _) c.from_residual.result c.from_residual.ensures.1
+    ∙ ap (measured room_of) (then-stopped _ _ _ c.in_err-register.ensures)
 
-pub returns-in_default-second : goal.returns-in_default-second
-returns-in_default-second c =
-    ap (field_read _) c.in_default-second.is
-    ∙ ap (measured room_of) (then-stopped _ _ _ (measured-stopped _ _ (field-refused _ _ c.pass_text-second.ensures c.in_default-second.is))
-    ∙ then-got _ _ _ (field-got _ _ c.read_plain-first.ensures c.in-Is.is))
+pub returns-in_err-text : goal.returns-in_err-text
+returns-in_err-text c =
+    handed-on (field_read _) c.from_residual-in_err-text.result c.from_residual-in_err-text.ensures.1
+    ∙ ap (measured room_of) (then-stopped _ _ _ (measured-stopped _ _ c.in_err-text.ensures)
+    ∙ then-got _ _ _ c.in_ok-register.ensures)
 
-pub returns-in_default-third : goal.returns-in_default-third
-returns-in_default-third c =
-    ap (field_read _) c.in_default-third.is
-    ∙ ap (measured room_of) (then-stopped _ _ _ (options-refused _ _ (field-refused _ _ c.read_field-third.ensures c.in_default-third.is))
-    ∙ then-got _ _ _ (measured-some _ _ _ _ (field-got _ _ c.pass_text-second.ensures c.in-Is-second.is)).1
-    ∙ then-got _ _ _ (field-got _ _ c.read_plain-first.ensures c.in-Is.is))
+pub returns-in_err-options : goal.returns-in_err-options
+returns-in_err-options c =
+    handed-on (field_read _) c.from_residual-in_err-options.result c.from_residual-in_err-options.ensures.1
+    ∙ ap (measured room_of) (then-stopped _ _ _ (options-refused _ _ c.in_err-options.ensures)
+    ∙ then-got _ _ _ (measured-some _ _ _ _ c.in_ok-text.ensures).1
+    ∙ then-got _ _ _ c.in_ok-register.ensures)
 
-pub overflow_add-less : goal.overflow_add-less
-overflow_add-less c = let few = got-good _ (gives-judged _ _ (gives-number 3)) (field-got _ _ c.read_field-third.ensures c.in-Is-third.is) in omega (arith, few.0)
+pub overflow_add-n : goal.overflow_add-n
+overflow_add-n c = let few = got-good _ (gives-judged _ _ (gives-number 3)) c.in_ok-options.ensures in omega (arith, few.0)
 
 pub returns : goal.returns
 returns c =
-    let t = measured-some _ _ _ _ (field-got _ _ c.pass_text-second.ensures c.in-Is-second.is) in
-    let k = field-got _ _ c.read_field-third.ensures c.in-Is-third.is in
+    let t = measured-some _ _ _ _ c.in_ok-text.ensures in
+    let k = c.in_ok-options.ensures in
     c.pass_texts.ensures ∙ ap (measured _) (options-read _ _ _ _ k) ∙ inputs-sized _ _ _ _ _ t.2
-    ∙ ap (measured room_of) (then-got _ _ _ t.1 ∙ then-got _ _ _ (field-got _ _ c.read_plain-first.ensures c.in-Is.is))
+    ∙ ap (measured room_of) (then-got _ _ _ t.1 ∙ then-got _ _ _ c.in_ok-register.ensures)

@@ -1,7 +1,6 @@
 -- `count_fields` meets its contract: the fields are the parts of what stands from the place on.
 use mathlib.Core.Path.{sym, ap, ◌∙◌}
 use lib.ListN.{length}
-use borrow.Author.Rules.{rules}
 use Rattle.text.specs.Parts.{comma, split}
 use Rattle.text.proofs.Places.{parts-some, parts_none}
 use Rattle.lines.proofs.FieldPlaces.{whole-rest}

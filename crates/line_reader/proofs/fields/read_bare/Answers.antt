@@ -1,20 +1,12 @@
 -- `read_bare` meets its contract: no field behind the kind, in a guide alone.
 use mathlib.Core.Path.{sym}
-use borrow.Author.Rules.{rules}
 use Rattle.text.specs.Parts.{comma}
 use Rattle.text.proofs.Places.{parts_none}
 use Rattle.lines.proofs.FieldPlaces.{bare-more}
 use Rattle.line_reader.proofs.fields.read_bare.Goals as goal
 
-pub returns-in-Listing : goal.returns-in-Listing
-returns-in-Listing c = λ l h. simp c.in-Listing.is
+pub returns-in-Guide : goal.returns-in-Guide
+returns-in-Guide c = λ l h. simp (c.in-Guide.is, parts_none comma c.args.s.now c.args.a c.if-s-a.true) (sym h)
 
-pub returns-then-a-s : goal.returns-then-a-s
-returns-then-a-s c =
-    let g = c.args in
-    λ l h. simp (c.in_default.is, bare-more g.s.now g.a l c.if-a-s.true)
-
-pub returns : goal.returns
-returns c =
-    let g = c.args in
-    λ l h. simp (c.in_default.is, parts_none comma g.s.now g.a c.if-a-s.false) (sym h)
+pub returns-in_default : goal.returns-in_default
+returns-in_default c = λ l h. simp (c.in-Guide.is, bare-more c.args.s.now c.args.a l c.if-s-a.false)

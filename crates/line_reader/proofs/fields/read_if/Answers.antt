@@ -1,6 +1,5 @@
 -- `read_if` meets its contract, for a guide and for a listing.
 use mathlib.Core.Path.{sym, ap, ◌∙◌}
-use borrow.Author.Rules.{rules}
 use Rattle.text.specs.Parts.{comma}
 use Rattle.text.proofs.Places.{parts_none}
 use Rattle.lines.specs.Line.{if_fields}
@@ -12,9 +11,3 @@ pub returns-then-s-a : goal.returns-then-s-a
 returns-then-s-a c =
     let g = c.args in
     sym (ap head_of (ap (if_fields g.form) (parts_none comma g.s.now g.a c.if-s-a.true) ∙ if_none g.form))
-
-pub returns-in-Guide : goal.returns-in-Guide
-returns-in-Guide c = simp c.in-Guide.is c.read_guide_if.ensures
-
-pub returns-in-Listing : goal.returns-in-Listing
-returns-in-Listing c = simp c.in-Listing.is c.read_listing_if.ensures

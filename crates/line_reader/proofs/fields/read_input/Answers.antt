@@ -1,36 +1,32 @@
 -- `read_input` meets its contract: behind the register stands one text.
-use Prim.Native.Nat.{◌+◌}
 use mathlib.Core.Path.{refl, sym, ap, ◌∙◌}
-use borrow.Author.Rules.{rules}
-use Rattle.causes.specs.declared.Cause.TheVariants.{Value}
-use Rattle.text.specs.Parts.{comma, parts_from}
-use Rattle.decimals.proofs.Answers.{natural-is, natural-wrong}
+use Rattle.std.proofs.lemmas.Result.{err_from_is_err_and}
+use Rattle.std.specs.Prelude.{Err}
+use Rattle.text.specs.Parts.{comma}
 use Rattle.text.proofs.Places.{parts_none, parts_next}
-use Rattle.transcript.specs.Statement.{input}
-use Rattle.lines.specs.Line.{says, faulty, input_line}
-use Rattle.lines.specs.Answers.{head_of}
-use Rattle.lines.proofs.FieldCounts.{input-register, input-wrong}
+use Rattle.line_reader.proofs.Missing.{missing}
+use Rattle.line_reader.proofs.OneText.{input-line}
 use Rattle.line_reader.proofs.fields.read_input.Goals as goal
 
 pub returns-then-s-a : goal.returns-then-s-a
-returns-then-s-a c =
-    let g = c.args in
-    simp (parts_none comma g.s.now g.a c.if-s-a.true)
+returns-then-s-a c = simp (parts_none comma c.args.s.now c.args.a c.if-s-a.true)
 
-pub returns-in-Is : goal.returns-in-Is
-returns-in-Is c =
-    let g = c.args in
-    let fields = parts_next comma g.s.now g.a c.find_within-e.result c.if-s-a.false c.find_within-e.ensures.value in
-    let register = natural-is 31 _ (sym c.read_natural.ensures ∙ c.in-Is.is) in
-    c.text_head.ensures
-    ∙ c.judge_text.ensures (λ t. says (input _ t)) _ (λ t. refl)
-    ∙ ap head_of (sym (ap input_line fields ∙ input-register _ _ (parts_from comma (c.find_within-e.result + 1) g.s.now) register))
+pub returns-in_err-judge_text : goal.returns-in_err-judge_text
+returns-in_err-judge_text c =
+    let fields = parts_next comma c.args.s.now c.args.a c.find-e.result c.if-s-a.false c.find-e.ensures.value in
+    let p = err_from_is_err_and c.from_residual.result c.from_residual.ensures.1 in
+    rw (fields, input-line, sym c.in_err-judge_text.ensures, p.1, p.2) refl
 
-pub returns-in-Wrong : goal.returns-in-Wrong
-returns-in-Wrong c =
-    let g = c.args in
-    let fields = parts_next comma g.s.now g.a c.find_within-e.result c.if-s-a.false c.find_within-e.ensures.value in
-    let register = natural-wrong 31 _ (sym c.read_natural.ensures ∙ c.in-Wrong.is) in
-    c.text_head-in-Wrong.ensures
-    ∙ c.judge_text-in-Wrong.ensures (λ t. faulty Value) _ (λ t. refl)
-    ∙ ap head_of (sym (ap input_line fields ∙ input-wrong _ (parts_from comma (c.find_within-e.result + 1) g.s.now) register))
+pub returns-in_err-register : goal.returns-in_err-register
+returns-in_err-register c =
+    let fields = parts_next comma c.args.s.now c.args.a c.find-e.result c.if-s-a.false c.find-e.ensures.value in
+    let n = c.in_err-register.ensures.ok_part in
+    let p = err_from_is_err_and c.from_residual-in_err-register.result c.from_residual-in_err-register.ensures.1 in
+    rw (fields, input-line)
+    (simp (sym c.in_ok-judge_text.ensures, sym c.read_natural.ensures ∙ n, p.1, p.2) (ap Err (missing _ n c.in_err-register.ensures.value)))
+
+pub returns : goal.returns
+returns c =
+    let fields = parts_next comma c.args.s.now c.args.a c.find-e.result c.if-s-a.false c.find-e.ensures.value in
+    let n = sym c.read_natural.ensures ∙ c.in_ok-register.ensures.ok_part in
+    rw (fields, input-line) (simp (sym c.in_ok-judge_text.ensures, n))

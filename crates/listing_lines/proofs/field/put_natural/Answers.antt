@@ -1,7 +1,6 @@
 -- `put_natural` meets its contract: a comma and the digits.
 use native.Mathlib.Omega.{arith}
 use Rattle.output.proofs.Pour.{then}
-use borrow.Author.Rules.{rules}
 use Rattle.listing_lines.proofs.field.put_natural.Goals as goal
 
 pub returns : goal.returns

@@ -1,7 +1,6 @@
 -- `put_operator` meets its contract: a comma, and the word of each operator.
 use native.Mathlib.Omega.{arith}
 use Rattle.output.proofs.Pour.{then}
-use borrow.Author.Rules.{rules}
 use Rattle.listing_lines.proofs.field.put_operator.Goals as goal
 
 pub returns-in-Eq : goal.returns-in-Eq

@@ -13,6 +13,7 @@ use Rattle.phrase_check.proofs.Checked.{good_none, good-end, good-texts-end, goo
 use Rattle.phrases.proofs.BookLines.{front-texts}
 use Rattle.phrases.proofs.Entered.{entered-none, cleared, entered-length, entered-indexed, before_small, entered-more, left_is, indexed-whole}
 use Rattle.phrase_check.proofs.check.check_book.Goals as goal
+use Rattle.phrase_check.proofs.check.check_book.Goals.{then-e-book-via-then-e-book, then-e-book-via-else-e-book+then-not-is_next}
 
 pub loop-a-init : goal.loop-a-init
 loop-a-init c =
@@ -27,32 +28,33 @@ is_next-requires c = ((entered-indexed _ _ _ _ _ c.loop-a.invariant.1 c.loop-a.i
 
 pub enter-requires : goal.enter-requires
 enter-requires c =
-    let few = (next_small _ _ (sym c.is_next.ensures ∙ c.if-is_next.true)).1 in
+    let few = (next_small _ _ (sym c.is_next.ensures ∙ c.if-not-is_next.false)).1 in
     (omega (arith, c.loop-a.invariant.5, entered-length _ _ _ _ _ c.loop-a.invariant.1), omega (arith, few, c.loop-a.invariant.0.count), omega (arith, c.loop-a.invariant.1.short, c.loop-a.invariant.2), before_small _ _ _ _ _ c.loop-a.invariant.1 c.loop-a.invariant.0.count c.loop-a.invariant.2 c.loop-a.invariant.5 c.loop-a.invariant.4 (list_of c.key_of-weight.result) (omega arith))
 
 pub loop-a-preserved : goal.loop-a-preserved
 loop-a-preserved c =
-    let within : c.find_far-e.result < length c.args.book.now = omega (arith, c.find_far-e.ensures.upper_bound, c.if-e-book.false) in
-    let e = sym c.is_next.ensures ∙ c.if-is_next.true in
+    let within : c.find-e.result < length c.args.book.now = omega (arith, c.find-e.ensures.upper_bound, c.if-e-book.false) in
+    let e = sym c.is_next.ensures ∙ c.if-not-is_next.false in
     let small = next_small _ _ e in
-    let texts = front-texts _ _ _ c.find_far-e.ensures.value within c.loop-a.invariant.0.whole in
+    let texts = front-texts _ _ _ c.find-e.ensures.value within c.loop-a.invariant.0.whole in
     let is = rw c.key_of-weight.ensures at c.enter.ensures in
-    let entered = entered-more _ _ _ _ _ c.loop-a.invariant.1 c.loop-a.invariant.0.count c.loop-a.invariant.2 c.loop-a.invariant.5 c.loop-a.invariant.4 c.find_far-e.result _ small.0 (search rules) within (next-new _ _ e) is texts in
-    (line-good _ _ _ c.loop-a.invariant.0 _ c.find_far-e.ensures.value within e, entered, omega (arith, small.1, c.loop-a.invariant.0.count), search rules, search rules, c.loop-a.invariant.5)
+    let entered = entered-more _ _ _ _ _ c.loop-a.invariant.1 c.loop-a.invariant.0.count c.loop-a.invariant.2 c.loop-a.invariant.5 c.loop-a.invariant.4 c.find-e.result _ small.0 (search rules) within (next-new _ _ e) is texts in
+    (line-good _ _ _ c.loop-a.invariant.0 _ c.find-e.ensures.value within e, entered, omega (arith, small.1, c.loop-a.invariant.0.count), search rules, search rules, c.loop-a.invariant.5)
 
 pub returns-then-e-book-clause-index_after : goal.returns-then-e-book-clause-index_after
 returns-then-e-book-clause-index_after c =
-    let bad = last-bad _ _ _ c.loop-a.invariant.0 _ c.find_far-e.ensures.value c.loop-a-test.true c.if-e-book.true in
-    let same = left_is _ _ _ _ _ _ c.loop-a.invariant.1 c.clear.ensures (good-texts-last _ _ _ c.loop-a.invariant.0 _ c.find_far-e.ensures.value c.if-e-book.true) in
-    λ i. (sym bad i, same i)
-
-pub returns-else-is_next-clause-index_after : goal.returns-else-is_next-clause-index_after
-returns-else-is_next-clause-index_after c =
-    let within : c.find_far-e.result < length c.args.book.now = omega (arith, c.find_far-e.ensures.upper_bound, c.if-e-book.false) in
-    let e = sym c.is_next.ensures ∙ c.if-is_next.false in
-    let bad = line-bad _ _ _ c.loop-a.invariant.0 _ c.find_far-e.ensures.value within e in
-    let same = left_is _ _ _ _ _ _ c.loop-a.invariant.1 c.clear.ensures (good-texts-bad _ _ _ c.loop-a.invariant.0 _ c.find_far-e.ensures.value within e) in
-    λ i. (sym bad i, same i)
+    elim c.then-e-book.branch [
+      | then-e-book-via-then-e-book w ↦
+          let bad = last-bad _ _ _ c.loop-a.invariant.0 _ c.find-e.ensures.value c.loop-a-test.true w.if-e-book.true in
+          let same = left_is _ _ _ _ _ _ c.loop-a.invariant.1 c.clear.ensures (good-texts-last _ _ _ c.loop-a.invariant.0 _ c.find-e.ensures.value w.if-e-book.true) in
+          λ i. (sym bad i, same i)
+      | then-e-book-via-else-e-book+then-not-is_next w ↦
+          let within : c.find-e.result < length c.args.book.now = omega (arith, c.find-e.ensures.upper_bound, w.if-e-book.false) in
+          let e = sym w.is_next.ensures ∙ w.if-not-is_next.true in
+          let bad = line-bad _ _ _ c.loop-a.invariant.0 _ c.find-e.ensures.value within e in
+          let same = left_is _ _ _ _ _ _ c.loop-a.invariant.1 c.clear.ensures (good-texts-bad _ _ _ c.loop-a.invariant.0 _ c.find-e.ensures.value within e) in
+          λ i. (sym bad i, same i)
+    ]
 
 pub returns-clause-index_after : goal.returns-clause-index_after
 returns-clause-index_after c =

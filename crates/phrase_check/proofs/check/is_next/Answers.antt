@@ -1,30 +1,30 @@
--- `is_next` meets its contract: a line is good where none of the three tests turns it down.
+-- `is_next` meets its contract: a line is good where it passes each of the three tests.
 use native.Mathlib.Omega.{arith}
 use Prim.Native.Nat.{◌<◌}
-use mathlib.Core.Path.{sym, ◌∙◌}
+use mathlib.Core.Path.{sym, ap, ◌∙◌}
+use borrow.Author.Tests.{ltb-true}
+use Rattle.std.specs.Prelude.{is_some}
 use lib.ListN.{length}
 use Rattle.phrases.specs.Lookup.{book_texts}
-use Rattle.phrases.proofs.Answers.{place_is}
 use Rattle.phrases.proofs.Entries.{indexed-count}
-use Rattle.phrase_check.proofs.Checked.{next-full, next-no-text, next-repeated, next-good}
+use Rattle.phrase_check.proofs.Checked.{next-full, next-no-text, next-found}
 use Rattle.phrase_check.proofs.check.is_next.Goals as goal
+use Rattle.phrase_check.proofs.check.is_next.Goals.{then-count_of-lt-PHRASES, else-count_of-lt-PHRASES}
 
-pub returns-then-count_of-ge-PHRASES : goal.returns-then-count_of-ge-PHRASES
-returns-then-count_of-ge-PHRASES c =
-    sym (next-full (book_texts c.args.earlier.now) c.args.line.now (omega (arith, indexed-count _ _ c.requires.0, c.count_of.ensures, c.if-count_of-ge-PHRASES.true)))
-
-pub returns-in-At : goal.returns-in-At
-returns-in-At c =
-    let t = sym c.is_text.ensures ∙ c.if-is_text.true in
-    let p = place_is _ _ (sym c.find_keyed.ensures ∙ c.in-At.is) in
-    sym (next-repeated (book_texts c.args.earlier.now) c.args.line.now t p)
-
-pub returns-in-Missing : goal.returns-in-Missing
-returns-in-Missing c =
-    let t = sym c.is_text.ensures ∙ c.if-is_text.true in
-    let p = place_is _ _ (sym c.find_keyed.ensures ∙ c.in-Missing.is) in
-    let few : length (book_texts c.args.earlier.now) < 256 = omega (arith, indexed-count _ _ c.requires.0, c.count_of.ensures, c.if-count_of-ge-PHRASES.false) in
-    sym (next-good (book_texts c.args.earlier.now) c.args.line.now few t p)
+pub returns-then-is_text : goal.returns-then-is_text
+returns-then-is_text c =
+    elim c.if-count_of-lt-PHRASES.branch [
+      | then-count_of-lt-PHRASES w ↦
+          let few : length (book_texts c.args.earlier.now) < 256 = omega (arith, indexed-count _ _ c.requires.0, c.count_of.ensures, w.if-count_of-lt-PHRASES.true) in
+          let text = sym w.is_text.ensures ∙ sym w.value-is ∙ c.if-is_text.true in
+          next-found _ _ few text _ (ap is_some (sym c.find_keyed.ensures) ∙ c.is_none.ensures)
+      | else-count_of-lt-PHRASES w ↦ absurd (omega (arith, ltb-true _ _ (sym w.value-is ∙ c.if-is_text.true), w.if-count_of-lt-PHRASES.false))
+    ]
 
 pub returns-else-is_text : goal.returns-else-is_text
-returns-else-is_text c = sym (next-no-text (book_texts c.args.earlier.now) c.args.line.now (sym c.is_text.ensures ∙ c.if-is_text.false))
+returns-else-is_text c =
+    c.if-is_text.false
+    ∙ sym (elim c.if-count_of-lt-PHRASES.branch [
+      | then-count_of-lt-PHRASES w ↦ next-no-text _ _ (sym w.is_text.ensures ∙ sym w.value-is ∙ c.if-is_text.false)
+      | else-count_of-lt-PHRASES w ↦ next-full _ _ (omega (arith, indexed-count _ _ c.requires.0, c.count_of.ensures, w.if-count_of-lt-PHRASES.false))
+    ])

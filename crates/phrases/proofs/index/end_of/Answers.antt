@@ -4,7 +4,6 @@ use Prim.Native.Nat.{◌+◌, ◌<◌, ◌≤◌}
 use lib.ListN.{length}
 use Rattle.phrases.specs.Lookup.{book_texts}
 use Rattle.phrases.proofs.Entries.{indexed-count, index-long, ends_last, ends_next}
-use borrow.Author.Rules.{rules}
 use Rattle.phrases.proofs.index.end_of.Goals as goal
 
 pub bounds-index-0 : goal.bounds-index-0

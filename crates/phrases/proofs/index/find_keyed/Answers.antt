@@ -1,9 +1,8 @@
 -- `find_keyed` meets its contract: no text from the link on is the one looked for, and each link is smaller.
-use borrow.Author.Rules.{rules}
 use native.Mathlib.Omega.{arith}
 use Prim.Native.Nat.{ℕ, ◌+◌, ◌<◌, ◌%◌}
 use mathlib.Core.Path.{◌≡◌, sym, ap, subst, ◌∙◌}
-use Rattle.phrases.specs.Lookup.{book_texts, place_answer}
+use Rattle.phrases.specs.Lookup.{book_texts}
 use Rattle.phrases.specs.Index.{list_of, last_of}
 use Rattle.phrases.proofs.Entries.{index-long, last-at, link-is, link-falls}
 use Rattle.phrases.proofs.Keys.{Searched, search-starts, search-ends, search-found, search-goes}
@@ -29,7 +28,7 @@ is_at-requires c = (c.requires.0, omega (arith, c.loop-next.invariant.bound, c.l
 
 pub returns-then-is_at : goal.returns-then-is_at
 returns-then-is_at c =
-    sym (ap place_answer (search-found _ _ _ c.loop-next.invariant (some-text c.loop-next-test.true) c.requires.0.different (sym c.is_at.ensures ∙ c.if-is_at.true)))
+    sym (search-found _ _ _ c.loop-next.invariant (some-text c.loop-next-test.true) c.requires.0.different (sym c.is_at.ensures ∙ c.if-is_at.true))
 
 pub bounds-index-next : goal.bounds-index-next
 bounds-index-next c = omega (arith, index-long _ _ c.requires.0, c.loop-next.invariant.bound, c.loop-next-test.true)
@@ -48,4 +47,4 @@ loop-next-preserved c =
 
 pub returns : goal.returns
 returns c =
-    sym (ap place_answer (search-ends _ _ (subst (Searched (book_texts c.args.book.now) c.args.text.now) c.loop-next-test.false c.loop-next.invariant)))
+    sym (search-ends _ _ (subst (Searched (book_texts c.args.book.now) c.args.text.now) c.loop-next-test.false c.loop-next.invariant))

@@ -1,36 +1,27 @@
 -- `key_of` meets its contract: the sum so far and the weight of what is left are the weight of the first 64 bytes.
-use Prim.Native.Nat.{suc, ◌+◌, ◌-◌, ◌*◌, ◌≤◌}
-use native.Mathlib.Omega.{arith}
-use mathlib.Core.Path.{◌≡◌}
-use lib.ListN.{length, take, drop, length-take}
-use borrow.Author.Rules.{rules}
+use Rattle.std.proofs.Common.{rules, ◌≡◌, ap, ◌<◌, suc, length, take, get_or, min, arith, length-take}
+use mir.Val.{Fits}
+use mir.Syntax.{w8}
+use lib.Seq.{get_or-take}
+use Rattle.std.proofs.lemmas.List.{take_min}
 use Rattle.phrases.specs.Index.{weigh, key}
 use Rattle.phrases.proofs.Weights.{weigh-on, weigh-none, product_small}
 use Rattle.phrases.proofs.index.key_of.Goals as goal
 
-pub loop-i-init : goal.loop-i-init
-loop-i-init c = (omega arith, omega arith, omega arith)
-
-pub overflow_cast-sum : goal.overflow_cast-sum
-overflow_cast-sum c = omega (arith, c.shared_slice_known-in-loop-i-1.given c.loop-i.i)
-
-pub overflow_mul-sum : goal.overflow_mul-sum
-overflow_mul-sum c =
-    omega (arith, product_small _ c.loop-i.i (c.shared_slice_known-in-loop-i-1.given c.loop-i.i) (search rules))
-
-pub overflow_add-sum-in-loop-i : goal.overflow_add-sum-in-loop-i
-overflow_add-sum-in-loop-i c =
-    omega (arith, product_small _ c.loop-i.i (c.shared_slice_known-in-loop-i-1.given c.loop-i.i) (search rules))
-
 pub loop-i-preserved : goal.loop-i-preserved
 loop-i-preserved c =
-    let small = product_small _ c.loop-i.i (c.shared_slice_known-in-loop-i-1.given c.loop-i.i) (search rules) in
-    let on = weigh-on c.args.text.now c.loop-i.i (search rules) (search rules) in
-    (omega (arith, on, c.loop-i.invariant.0), search rules, omega (arith, small))
+    let t = c.args.text.now in
+    let i = c.loop-i.i in
+    let within : i < length (take c.min.result t) = search rules in
+    let below : i < c.min.result = omega (arith, within, length-take c.min.result t) in
+    let byte : Fits w8 (get_or (take c.min.result t) i 0) = rw get_or-take (c.type_inv.text i) in
+    let small = product_small _ i byte (omega (arith, c.min.ensures)) in
+    (omega (arith, weigh-on (take c.min.result t) i within, c.loop-i.invariant.0), omega (arith, small, c.loop-i.invariant.1))
 
 pub returns : goal.returns
-unfolding key weigh
+unfolding key
 returns c =
     let t = c.args.text.now in
-    let long : length (take 64 t) ≤ c.loop-i.i = rw length-take (omega arith) in
-    omega (arith, weigh-none t c.loop-i.i (suc c.loop-i.i) long, c.loop-i.invariant.0)
+    let short : c.min.result ≡ min 64 (length t) = omega (arith, c.min.ensures) in
+    let front : take c.min.result t ≡ take 64 t = rw short (take_min 64 t) in
+    omega (arith, c.loop-i.invariant.0, ap (weigh 1) front, weigh-none (take c.min.result t) c.loop-i.i (suc c.loop-i.i) c.loop-i-test.false)

@@ -6,7 +6,6 @@ use lib.ListN.{length, take, drop, get_or}
 use mathlib.Core.List.{[]}
 use Rattle.phrases.specs.Lookup.{book_texts}
 use Rattle.phrases.proofs.Entries.{index-long, entry-is, text-placed}
-use borrow.Author.Rules.{rules}
 use Rattle.phrases.proofs.index.text_of.Goals as goal
 
 pub bounds-index-k : goal.bounds-index-k

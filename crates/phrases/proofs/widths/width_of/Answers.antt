@@ -1,17 +1,15 @@
--- `width_of` meets its contract: each answer is enough, and one less is not.
-use borrow.Author.Rules.{rules}
-use mathlib.Core.Path.{sym}
-use Rattle.phrases.proofs.Width.{width_is}
+-- `width_of` meets its contract: so many bits are enough, and one less is not.
+use Rattle.std.proofs.Common.{◌^◌, ◌≤◌, ◌<◌, suc, arith}
+use native.Mathlib.Nat.{two-pow-succ}
+use Rattle.phrases.proofs.Width.{width-least, width_is}
 use Rattle.phrases.proofs.widths.width_of.Goals as goal
 
-pub returns-then-n-le32 : goal.returns-then-n-le32
-returns-then-n-le32 c = sym (width_is _ 4 (search rules) (search rules))
+pub returns-then-n-le1 : goal.returns-then-n-le1
+returns-then-n-le1 c = omega (arith, width-least _ 0 c.if-n-le1.true)
 
-pub returns-then-n-le64 : goal.returns-then-n-le64
-returns-then-n-le64 c = sym (width_is _ 5 (search rules) (search rules))
-
-pub returns-then-n-le128 : goal.returns-then-n-le128
-returns-then-n-le128 c = sym (width_is _ 6 (search rules) (search rules))
-
-pub returns-then-n-le256 : goal.returns-then-n-le256
-returns-then-n-le256 c = sym (width_is _ 7 (search rules) (search rules))
+pub returns-else-n-le1 : goal.returns-else-n-le1
+returns-else-n-le1 c =
+    let w = c.ilog2.result in
+    let more : 2 ^ w < c.args.n = omega (arith, c.ilog2.ensures.power_le) in
+    let enough : c.args.n ≤ 2 ^ suc w = omega (arith, c.ilog2.ensures.next_power_gt, two-pow-succ w) in
+    omega (arith, width_is _ w more enough)

@@ -28,36 +28,36 @@ returns-in_default c =
     let r = copy_rest some_bits c.loop-eight.invariant c.requires.1 _ (c.copy_each.ensures.out_after, c.copy_each.ensures.next_value) (omega arith) in
     record { out_after = r.0; next_value = r.1 }
 
-pub loop-n-init : goal.loop-n-init
-loop-n-init c = (
+pub loop-init : goal.loop-init
+loop-init c = (
   copy_start some_bits _ _ _ _ (omega (arith, ended _ _ _ _ _ c.loop-eight.invariant.written)),
-  left-start _ _ _ (sym c.read_eight.ensures ∙ c.in-Is.is),
+  left-start _ _ _ (sym c.read_eight.ensures ∙ c.in-Some.is),
   omega arith,
 )
 
 pub loop-eight-smaller : goal.loop-eight-smaller
-loop-eight-smaller c = omega (arith, c.loop-n.invariant.1.room, c.loop-n.invariant.1.most, c.loop-n.invariant.2)
+loop-eight-smaller c = omega (arith, c.loop.invariant.1.room, c.loop.invariant.1.most, c.loop.invariant.2)
 
 pub loop-eight-preserved : goal.loop-eight-preserved
-loop-eight-preserved c = copy-joined some_bits c.loop-eight.invariant c.loop-n.invariant.0 (omega arith)
+loop-eight-preserved c = copy-joined some_bits c.loop-eight.invariant c.loop.invariant.0 (omega arith)
 
 pub shape_of-out-then-code-eq3 : goal.shape_of-out-then-code-eq3
-shape_of-out-then-code-eq3 c = omega (arith, kept _ _ _ _ _ c.loop-eight.invariant.written, kept _ _ _ _ _ c.loop-n.invariant.0.written)
+shape_of-out-then-code-eq3 c = omega (arith, kept _ _ _ _ _ c.loop-eight.invariant.written, kept _ _ _ _ _ c.loop.invariant.0.written)
 
 pub returns-then-code-eq3 : goal.returns-then-code-eq3
 returns-then-code-eq3 c =
-    let e = left-number c.loop-n.invariant.1 c.loop-n-test.true in
+    let e = left-number c.loop.invariant.1 (omega arith) in
     let known = copy-known some_bits c.loop-eight.invariant c.requires.1 in
-    let r = copy_rest some_bits c.loop-eight.invariant c.requires.1 _ (copy_ended some_bits c.loop-n.invariant.0 known _ e c.if-code-eq3.true) (omega arith) in
+    let r = copy_rest some_bits c.loop-eight.invariant c.requires.1 _ (copy_ended some_bits c.loop.invariant.0 known _ e c.if-code-eq3.true) (omega arith) in
     record { out_after = r.0; next_value = r.1 }
 
 pub overflow_cast-code : goal.overflow_cast-code
-overflow_cast-code c = record { fits = omega (arith, left_below c.loop-n.invariant.1 c.loop-n-test.true) }
+overflow_cast-code c = record { fits = omega (arith, left_below c.loop.invariant.1 (omega arith)) }
 
-pub loop-n-preserved : goal.loop-n-preserved
-loop-n-preserved c = let known = copy-known some_bits c.loop-eight.invariant c.requires.1 in
+pub loop-preserved : goal.loop-preserved
+loop-preserved c = let known = copy-known some_bits c.loop-eight.invariant c.requires.1 in
     let short = kept _ _ _ _ _ c.loop-eight.invariant.written in (
-      copy_more some_bits c.loop-n.invariant.0 known _ (left-number c.loop-n.invariant.1 c.loop-n-test.true) c.if-code-eq3.false c.put_byte-end.ensures (omega arith),
-      left-more c.loop-n.invariant.1 c.loop-n-test.true,
+      copy_more some_bits c.loop.invariant.0 known _ (left-number c.loop.invariant.1 (omega arith)) c.if-code-eq3.false c.put_byte-end.ensures (omega arith),
+      left-more c.loop.invariant.1 (omega arith),
       omega arith,
     )

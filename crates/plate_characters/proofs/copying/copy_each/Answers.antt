@@ -19,27 +19,27 @@ pub returns-in_default : goal.returns-in_default
 returns-in_default c = let e = sym c.read_number.ensures ∙ c.in_default.is in absurd (copy-cut c.requires.0 c.loop-code.invariant c.requires.3 e)
 
 pub overflow_add-result : goal.overflow_add-result
-overflow_add-result c = let e = sym c.read_number.ensures ∙ c.in-Is.is in omega (arith, number-end c.args.plate.now c.loop-code.bit c.args.width _ e)
+overflow_add-result c = let e = sym c.read_number.ensures ∙ c.in-Some.is in omega (arith, number-end c.args.plate.now c.loop-code.bit c.args.width _ e)
 
 pub shape_of-out-then-code-eq3 : goal.shape_of-out-then-code-eq3
 shape_of-out-then-code-eq3 c = kept _ _ _ _ _ c.loop-code.invariant.written
 
 pub returns-then-code-eq3 : goal.returns-then-code-eq3
 returns-then-code-eq3 c =
-    let e = sym c.read_number.ensures ∙ c.in-Is.is in
+    let e = sym c.read_number.ensures ∙ c.in-Some.is in
     let r = copy_ended c.requires.0 c.loop-code.invariant c.requires.3 _ (number-there _ _ c.args.width _ e) c.if-code-eq3.true in
     record { out_after = r.0; next_value = r.1 }
 
 pub overflow_cast-code : goal.overflow_cast-code
-overflow_cast-code c = let e = sym c.read_number.ensures ∙ c.in-Is.is in
+overflow_cast-code c = let e = sym c.read_number.ensures ∙ c.in-Some.is in
     let m : 2 ^ c.args.width ≤ 2 ^ 8 = pow_mono c.requires.1 in
     record { fits = omega (arith, number-below c.args.width _ _ e) }
 
 pub overflow_add-bit : goal.overflow_add-bit
-overflow_add-bit c = let e = sym c.read_number.ensures ∙ c.in-Is.is in omega (arith, number-end c.args.plate.now c.loop-code.bit c.args.width _ e)
+overflow_add-bit c = let e = sym c.read_number.ensures ∙ c.in-Some.is in omega (arith, number-end c.args.plate.now c.loop-code.bit c.args.width _ e)
 
 pub loop-code-smaller : goal.loop-code-smaller
-loop-code-smaller c = let e = sym c.read_number.ensures ∙ c.in-Is.is in omega (arith, number-end c.args.plate.now c.loop-code.bit c.args.width _ e)
+loop-code-smaller c = let e = sym c.read_number.ensures ∙ c.in-Some.is in omega (arith, number-end c.args.plate.now c.loop-code.bit c.args.width _ e)
 
 pub loop-code-preserved : goal.loop-code-preserved
-loop-code-preserved c = let e = sym c.read_number.ensures ∙ c.in-Is.is in copy_more c.requires.0 c.loop-code.invariant c.requires.3 _ (number-there _ _ c.args.width _ e) c.if-code-eq3.false c.put_byte-end.ensures (omega arith)
+loop-code-preserved c = let e = sym c.read_number.ensures ∙ c.in-Some.is in copy_more c.requires.0 c.loop-code.invariant c.requires.3 _ (number-there _ _ c.args.width _ e) c.if-code-eq3.false c.put_byte-end.ensures (omega arith)

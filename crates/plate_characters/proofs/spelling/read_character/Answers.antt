@@ -1,20 +1,16 @@
 -- `read_character` meets its contract: a number of so many bits, judged.
-use mathlib.Core.Path.{sym, ◌∙◌}
-use Rattle.fields.proofs.Onward.{judged-got, judged-not}
-use Rattle.fields.proofs.Answers.{field-got, field-kept}
+use Rattle.std.proofs.Common.{sym, ◌∙◌}
+use Rattle.fields.specs.Places.{field_read}
+use Rattle.fields.proofs.Exits.{handed-on}
+use Rattle.fields.proofs.Onward.{judged-got, judged-not, judged-stopped}
 use Rattle.plate_characters.proofs.spelling.read_character.Goals as goal
 
-pub returns-in_default : goal.returns-in_default
-returns-in_default c = field-kept _ _ _ _ _ c.in_default.is _ c.read_plain-field.ensures
+pub returns-in_err-field : goal.returns-in_err-field
+returns-in_err-field c =
+    handed-on (field_read _) c.from_residual.result c.from_residual.ensures.1 ∙ judged-stopped _ _ _ _ _ c.in_err-field.ensures
 
 pub returns-then-is_character : goal.returns-then-is_character
-returns-then-is_character c =
-    judged-got _ _ _ _ _
-    (field-got _ _ c.read_plain-field.ensures c.in-Is.is)
-    (sym c.is_character.ensures ∙ c.if-is_character.true)
+returns-then-is_character c = judged-got _ _ _ _ _ c.in_ok-field.ensures (sym c.is_character.ensures ∙ c.if-is_character.true)
 
-pub returns : goal.returns
-returns c =
-    judged-not _ _ _ _ _
-    (field-got _ _ c.read_plain-field.ensures c.in-Is.is)
-    (sym c.is_character.ensures ∙ c.if-is_character.false)
+pub returns-else-is_character : goal.returns-else-is_character
+returns-else-is_character c = judged-not _ _ _ _ _ c.in_ok-field.ensures (sym c.is_character.ensures ∙ c.if-is_character.false)

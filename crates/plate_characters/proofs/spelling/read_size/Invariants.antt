@@ -1,5 +1,5 @@
 -- `read_size` meets its contract. The loops' invariant: the characters passed and those behind them are the whole text. The inner loop also
--- knows the bits that are left of the eight characters. The measures are the bits that are left, and the characters left of the eight.
+-- knows the bits that are left of the eight characters. The measure is the bits that are left.
 use Prim.Native.Nat.{◌+◌, ◌*◌, ◌-◌}
 use mathlib.Core.Path.{◌≡◌}
 use lib.ListN.{length}
@@ -7,11 +7,8 @@ use Rattle.plate_characters.proofs.Characters.{SizeSoFar}
 use Rattle.plate_characters.proofs.Cuts.{Left}
 use Rattle.plate_characters.proofs.spelling.read_size.Given as goal
 
-abbrev pub invariant-loop-n : goal.invariant-loop-n
-invariant-loop-n l = SizeSoFar 7 l.plate l.at l.size l.bit × Left l.plate l.bit l.left l.n × (l.bit ≡ l.initial.bit + l.n * 7)
-
-abbrev pub decreases-loop-n : goal.decreases-loop-n
-decreases-loop-n l = 8 - l.n
+abbrev pub invariant-loop : goal.invariant-loop
+invariant-loop l = SizeSoFar 7 l.plate l.at l.size l.bit × Left l.plate l.bit l.left l.counter × (l.bit ≡ l.initial.bit + l.counter * 7)
 
 abbrev pub invariant-loop-eight : goal.invariant-loop-eight
 invariant-loop-eight l = SizeSoFar 7 l.plate l.at l.size l.bit

@@ -15,7 +15,7 @@ returns-in_default c = number_cut _ _ _ (first_ends _ (sym c.read_number.ensures
 pub overflow_add-at : goal.overflow_add-at
 overflow_add-at c =
     let a = c.args in
-    omega (arith, number-end a.plate.now a.at 16 _ (sym c.read_number.ensures ∙ c.in-Is.is))
+    omega (arith, number-end a.plate.now a.at 16 _ (sym c.read_number.ensures ∙ c.in-Some.is))
 
 pub returns-in_default-read_number : goal.returns-in_default-read_number
 returns-in_default-read_number c =
@@ -26,12 +26,12 @@ returns-in_default-read_number c =
 pub overflow_add-result-2 : goal.overflow_add-result-2
 overflow_add-result-2 c =
     let a = c.args in
-    omega (arith, number-end a.plate.now (a.at + 16) 16 _ (sym c.read_number-2.ensures ∙ c.in-Is-read_number.is))
+    omega (arith, number-end a.plate.now (a.at + 16) 16 _ (sym c.read_number-2.ensures ∙ c.in-Some-read_number.is))
 
 pub returns : goal.returns
 returns c =
     let a = c.args in
     let behind = ap (number_in 16) (drop-drop 16 a.at (bytes_bits a.plate.now)) in
-    let high = sym c.read_number.ensures ∙ c.in-Is.is in
-    let low = behind ∙ sym c.read_number-2.ensures ∙ c.in-Is-read_number.is in
+    let high = sym c.read_number.ensures ∙ c.in-Some.is in
+    let low = behind ∙ sym c.read_number-2.ensures ∙ c.in-Some-read_number.is in
     number-there _ _ _ _ (halves_in _ _ _ high low)

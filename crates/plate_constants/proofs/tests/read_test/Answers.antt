@@ -1,51 +1,34 @@
 -- `read_test` meets its contract: three fields, one after the other.
-use Rattle.fields.specs.Places.{place_at}
-use mathlib.Core.Path.{◌∙◌}
+use Rattle.std.proofs.Common.{◌∙◌, rules}
 use mir.Syntax.{w32}
 use mir.Facts.{to_z-of_z}
-use borrow.Author.Rules.{rules}
 use Rattle.plate.specs.Plate.{test}
 use Rattle.plate_constants.proofs.Ops.{test-made}
+use Rattle.fields.specs.Places.{field_read}
+use Rattle.fields.proofs.Exits.{handed-on}
 use Rattle.fields.proofs.Onward.{then-got, then-stopped}
-use Rattle.fields.proofs.Answers.{field-got, field-stopped, constant-got, constant-stopped}
 use Rattle.plate_constants.proofs.tests.read_test.Goals as goal
 
-pub returns-in_default : goal.returns-in_default
-unfolding test place_at
-returns-in_default c =
-    then-stopped _ _ _
-    (field-stopped _ _ c.read_plain-first.ensures c.in_default.is c.refusal.ensures)
+pub returns-in_err-register : goal.returns-in_err-register
+unfolding test
+returns-in_err-register c =
+    handed-on (field_read _) c.from_residual.result c.from_residual.ensures.1 ∙ then-stopped _ _ _ c.in_err-register.ensures
 
-pub returns-in_default-second : goal.returns-in_default-second
-unfolding test place_at
-returns-in_default-second c =
-    then-stopped _ _ _
-    (field-stopped _ _ c.read_field-second.ensures c.in_default-second.is c.refusal-in_default-second.ensures)
-    ∙ then-got _ _ _
-    (field-got _ _ c.read_plain-first.ensures
-    c.in-Is.is)
+pub returns-in_err-code : goal.returns-in_err-code
+unfolding test
+returns-in_err-code c =
+    handed-on (field_read _) c.from_residual-in_err-code.result c.from_residual-in_err-code.ensures.1
+    ∙ then-stopped _ _ _ c.in_err-code.ensures ∙ then-got _ _ _ c.in_ok-register.ensures
 
-pub returns-in_default-third : goal.returns-in_default-third
-unfolding test place_at
-returns-in_default-third c =
-    then-stopped _ _ _
-    (constant-stopped _ _ c.read_constant-third.ensures c.in_default-third.is c.refusal-in_default-third.ensures)
-    ∙ then-got _ _ _
-    (field-got _ _ c.read_field-second.ensures
-    c.in-Is-second.is)
-    ∙ then-got _ _ _
-    (field-got _ _ c.read_plain-first.ensures
-    c.in-Is.is)
+pub returns-in_err-constant : goal.returns-in_err-constant
+unfolding test
+returns-in_err-constant c =
+    handed-on (field_read _) c.from_residual-in_err-constant.result c.from_residual-in_err-constant.ensures.1
+    ∙ then-stopped _ _ _ c.in_err-constant.ensures ∙ then-got _ _ _ c.in_ok-code.ensures ∙ then-got _ _ _ c.in_ok-register.ensures
 
 pub returns : goal.returns
-unfolding test place_at
-returns c = let fits = to_z-of_z {w = w32} {z = c.in-Is-third.constant}
-    (record { sfits = search rules }) in
-    test-made _ _ c.op_of-op.ensures fits
-    ∙ then-got _ _ _ (constant-got _ _ c.read_constant-third.ensures c.in-Is-third.is)
-    ∙ then-got _ _ _
-    (field-got _ _ c.read_field-second.ensures
-    c.in-Is-second.is)
-    ∙ then-got _ _ _
-    (field-got _ _ c.read_plain-first.ensures
-    c.in-Is.is)
+unfolding test
+returns c =
+    let fits = to_z-of_z {w = w32} {z = c.in_ok-constant.constant.value} (record { sfits = search rules }) in
+    test-made _ _ c.op_of.ensures fits
+    ∙ then-got _ _ _ c.in_ok-constant.ensures ∙ then-got _ _ _ c.in_ok-code.ensures ∙ then-got _ _ _ c.in_ok-register.ensures

@@ -7,10 +7,10 @@ pub returns-then-length-gt-PLATE_BYTES : goal.returns-then-length-gt-PLATE_BYTES
 unfolding plate_room
 returns-then-length-gt-PLATE_BYTES c = simp (lt-leb _ _ c.if-length-gt-PLATE_BYTES.true)
 
-pub returns-then-lent-length : goal.returns-then-lent-length
+pub returns-then-length-lent : goal.returns-then-length-lent
 unfolding plate_room
-returns-then-lent-length c = simp (le-leb _ _ c.if-length-gt-PLATE_BYTES.false, lt-leb _ _ c.if-lent-length.true)
+returns-then-length-lent c = simp (le-leb _ _ c.if-length-gt-PLATE_BYTES.false, lt-leb _ _ c.if-length-lent.true)
 
 pub returns : goal.returns
 unfolding plate_room
-returns c = simp (le-leb _ _ c.if-length-gt-PLATE_BYTES.false, le-leb _ _ c.if-lent-length.false)
+returns c = simp (le-leb _ _ c.if-length-gt-PLATE_BYTES.false, le-leb _ _ c.if-length-lent.false)

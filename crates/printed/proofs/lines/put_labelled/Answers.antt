@@ -1,7 +1,6 @@
 -- `put_labelled` meets its contract: the number is written behind the label.
 use native.Mathlib.Omega.{arith}
 use Rattle.output.proofs.Pour.{then}
-use borrow.Author.Rules.{rules}
 use Rattle.printed.proofs.lines.put_labelled.Goals as goal
 
 pub returns : goal.returns

@@ -2,11 +2,7 @@
 use native.Mathlib.Omega.{arith}
 use Rattle.output.proofs.Pour.{then}
 use Rattle.printed.specs.Lines.{plate_line}
-use borrow.Author.Rules.{rules}
 use Rattle.printed.proofs.lines.put_plate.Goals as goal
-
--- UNKNOWN slice-aggregate-put : tie.Need-slice-aggregate-put
--- UNKNOWN slice-aggregate-put c = search rules
 
 pub returns : goal.returns
 unfolding plate_line

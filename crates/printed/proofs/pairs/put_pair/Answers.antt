@@ -1,7 +1,6 @@
 -- `put_pair` meets its contract: one digit is written behind the other.
 use native.Mathlib.Omega.{arith}
 use Rattle.output.proofs.Pour.{then}
-use borrow.Author.Rules.{rules}
 use Rattle.printed.proofs.pairs.put_pair.Goals as goal
 
 pub returns : goal.returns

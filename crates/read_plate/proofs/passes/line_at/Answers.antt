@@ -1,6 +1,5 @@
 -- `line_at` meets its contract: what is written into the lent tail is written into the buffer.
 use Rattle.output.proofs.Tails.{in_tail}
-use borrow.Author.Rules.{rules}
 use Rattle.read_plate.proofs.passes.line_at.Goals as goal
 
 pub returns : goal.returns

@@ -1,8 +1,7 @@
 -- `produce` meets its contract: the own phrases' lines, and then the instructions' lines.
 use native.Mathlib.Omega.{arith}
 use Rattle.read_plate.proofs.Whole.{write-listing}
-use borrow.Author.Rules.{rules}
 use Rattle.read_plate.proofs.passes.produce.Goals as goal
 
 pub returns : goal.returns
-returns c = write-listing _ _ _ _ _ _ _ _ c.put_phrases-end.ensures c.put_instructions.ensures (omega arith)
+returns c = write-listing _ _ _ _ _ _ _ c.put_phrases-end.ensures c.put_instructions.ensures (omega arith)

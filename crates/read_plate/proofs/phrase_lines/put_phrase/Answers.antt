@@ -3,7 +3,6 @@ use native.Mathlib.Omega.{arith}
 use Rattle.text.specs.Parts.{join}
 use Rattle.output.proofs.Pour.{then}
 use Rattle.listing.specs.Listing.{lines_text}
-use borrow.Author.Rules.{rules}
 use Rattle.read_plate.proofs.phrase_lines.put_phrase.Goals as goal
 
 pub returns : goal.returns

@@ -1,6 +1,5 @@
 -- `put_phrase` meets its contract: three writings, one behind the other.
 use native.Mathlib.Omega.{arith}
-use borrow.Author.Rules.{rules}
 use Rattle.output.proofs.Pour.{then}
 use Rattle.reader.specs.Own.{phrase_line}
 use Rattle.reader.proofs.own.put_phrase.Goals as goal

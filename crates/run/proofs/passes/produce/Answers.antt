@@ -3,11 +3,10 @@ use mathlib.Core.Path.{refl}
 use native.Mathlib.Omega.{arith}
 use Rattle.machine.proofs.Passes.{fresh-steps}
 use Rattle.run.proofs.Going.{lay-program}
-use borrow.Author.Rules.{rules}
 use Rattle.run.proofs.passes.produce.Goals as goal
 
 pub run_from-requires : goal.run_from-requires
-run_from-requires c = let z = fresh-steps _ c.fresh-m.ensures in (c.requires, c.requires.stands.whole, refl, omega (arith, c.requires.stands.few))
+run_from-requires c = let z = fresh-steps _ c.fresh.ensures in (c.requires.short, c.requires.whole, refl, omega (arith, c.requires.few))
 
 pub returns : goal.returns
-returns c = (_, lay-program _ _ _ _ _ _ _ _ _ _ c.run_from.ensures (c.fresh-m.ensures _))
+returns c = (_, lay-program _ _ _ _ _ _ _ _ _ c.run_from.ensures (c.fresh.ensures _))

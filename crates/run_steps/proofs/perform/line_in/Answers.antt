@@ -1,7 +1,6 @@
 -- `line_in` meets its contract: three writings, each where the one before ended.
 use native.Mathlib.Omega.{arith}
 use Rattle.output.proofs.Pour.{then}
-use borrow.Author.Rules.{rules}
 use Rattle.run_steps.proofs.perform.line_in.Goals as goal
 
 pub returns : goal.returns

@@ -1,6 +1,5 @@
 -- `put_choices` meets its contract: what is written into the lent tail is written into the buffer.
 use Rattle.output.proofs.Tails.{in_tail}
-use borrow.Author.Rules.{rules}
 use Rattle.run_steps.proofs.perform.put_choices.Goals as goal
 
 pub returns : goal.returns

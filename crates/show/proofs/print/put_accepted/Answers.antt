@@ -1,7 +1,6 @@
 -- `put_accepted` meets its contract: the plate's line is written behind the listing.
 use native.Mathlib.Omega.{arith}
 use Rattle.output.proofs.Pour.{then}
-use borrow.Author.Rules.{rules}
 use Rattle.show.proofs.print.put_accepted.Goals as goal
 
 pub returns : goal.returns

@@ -1,34 +1,30 @@
--- `find` meets its contract: the first x from a on is the first from i on.
-use Prim.Native.Nat.{◌+◌, ◌≤◌, ◌-◌}
-use mathlib.Core.Path.{◌≡◌, refl, sym, ◌∙◌}
-use mathlib.Core.Logic.{⊎_elim}
-use lib.ListN.{length, drop}
-use borrow.Author.Rules.{rules}
-use Rattle.text.specs.Parts.{until_byte}
-use Rattle.text.proofs.Places.{until-here, until-later, until_none}
-use Rattle.text.proofs.Searches.{pass-two, pass-three, pass-four}
+-- `find` meets its contract: the place of the first x among the bytes from a on.
+use Rattle.std.proofs.Common.{rules, ◌≡◌, ◌-◌, ◌∙◌, List, take, drop, length, ℕ, Option, Some, None, arith}
+use borrow.Author.Tests.{tests}
+use Rattle.std.proofs.lemmas.Iterator.{YieldsList-from_slice}
+use Rattle.std.proofs.lemmas.Iterator.Search.{position_from_yields_List}
+use Rattle.std.specs.List.{position}
+use lib.Dec.{eqb}
+use lib.ListN.{length-drop}
+use lib.Seq.{take_all}
+use Rattle.text.proofs.Words.{until_is}
 use Rattle.text.proofs.search.find.Goals as goal
 
-pub returns-then-s-i : goal.returns-then-s-i
-returns-then-s-i c = record { value = until-here _ _ _ (search rules) c.if-s-i.true ∙ sym c.loop-i.invariant.0; upper_bound = search rules }
+-- the end of a slice, as its iterator has it
+tail : (a : ℕ) (s : List ℕ) → take (length s - a) (drop a s) ≡ drop a s
+tail a s = take_all (length s - a) (drop a s) (omega (arith, length-drop a s))
 
-pub returns-then-s-i-2 : goal.returns-then-s-i-2
-returns-then-s-i-2 c = record { value = until-here _ _ _ (search rules) c.if-s-i-2.true ∙ sym (c.loop-i.invariant.0 ∙ until-later _ _ _ (search rules) c.if-s-i.false); upper_bound = search rules }
+pub returns-in-Some-clause-value : goal.returns-in-Some-clause-value
+returns-in-Some-clause-value c =
+    let s = drop c.args.a c.args.s.now in
+    let e : Some c.in-Some.k ≡ position (λ b. eqb b c.args.x) s =
+    position_from_yields_List (λ b. eqb b c.args.x) _ _ (Some c.in-Some.k) c.in-Some.ensures.ran (YieldsList-from_slice s (c.iter.ensures.rest ∙ tail c.args.a c.args.s.now)) (λ x b q k. search (rules, tests)) in
+    omega (arith, until_is c.args.x s (Some c.in-Some.k) e)
 
-pub returns-then-s-i-3 : goal.returns-then-s-i-3
-returns-then-s-i-3 c = record { value = until-here _ _ _ (search rules) c.if-s-i-3.true ∙ sym (c.loop-i.invariant.0 ∙ pass-two _ _ _ (search rules) c.if-s-i.false c.if-s-i-2.false); upper_bound = search rules }
-
-pub returns-then-s-i-4 : goal.returns-then-s-i-4
-returns-then-s-i-4 c = record { value = until-here _ _ _ (search rules) c.if-s-i-4.true ∙ sym (c.loop-i.invariant.0 ∙ pass-three _ _ _ (search rules) c.if-s-i.false c.if-s-i-2.false (search rules) c.if-s-i-3.false); upper_bound = search rules }
-
-pub loop-i-preserved : goal.loop-i-preserved
-loop-i-preserved c = (c.loop-i.invariant.0 ∙ pass-four _ _ _ (search rules) c.if-s-i.false c.if-s-i-2.false (search rules) c.if-s-i-3.false (search rules) c.if-s-i-4.false, search rules, search rules)
-
-pub returns-then-s-i-5 : goal.returns-then-s-i-5
-returns-then-s-i-5 c = record { value = until-here _ _ _ (search rules) c.if-s-i-5.true ∙ sym c.loop-i-2.invariant.0; upper_bound = search rules }
-
-pub loop-i-2-preserved : goal.loop-i-2-preserved
-loop-i-2-preserved c = (c.loop-i-2.invariant.0 ∙ until-later _ _ _ (search rules) c.if-s-i-5.false, search rules, search rules)
-
-pub returns-then-i-s : goal.returns-then-i-s
-returns-then-i-s c = record { value = until_none _ _ _ (search rules) ∙ sym c.loop-i-2.invariant.0; upper_bound = search rules }
+pub returns-in-None-clause-value : goal.returns-in-None-clause-value
+returns-in-None-clause-value c =
+    let s = drop c.args.a c.args.s.now in
+    let r : Option ℕ = None in
+    let e : r ≡ position (λ b. eqb b c.args.x) s =
+    position_from_yields_List (λ b. eqb b c.args.x) _ _ r c.in-None.ensures.ran (YieldsList-from_slice s (c.iter.ensures.rest ∙ tail c.args.a c.args.s.now)) (λ x b q k. search (rules, tests)) in
+    omega (arith, until_is c.args.x s r e, length-drop c.args.a c.args.s.now)

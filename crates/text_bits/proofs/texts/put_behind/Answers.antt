@@ -1,7 +1,6 @@
 -- `put_behind` meets its contract: a number of two parts has the bits of both.
 use native.Mathlib.Omega.{arith}
 use lib.Pow.{pow_pos}
-use borrow.Author.Rules.{rules}
 use Rattle.bits.proofs.Fields.{bits-behind}
 use Rattle.text_bits.proofs.Codes.{unit-is, behind-below}
 use Rattle.text_bits.proofs.texts.put_behind.Goals as goal

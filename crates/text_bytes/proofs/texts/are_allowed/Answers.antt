@@ -1,27 +1,11 @@
--- `are_allowed` meets its contract: every byte is allowed where those from i on are and the flag is true.
-use Prim.Native.Nat.{◌≤◌, ◌-◌}
-use mathlib.Core.Path.{sym, ◌∙◌}
-use mathlib.Core.Logic.{⊎_elim}
-use mathlib.Core.Bool.{and-false}
-use lib.ListN.{length, drop}
-use borrow.Author.Rules.{rules}
-use borrow.Author.Tests.{not-true, not-false}
-use Rattle.text.specs.Parts.{all}
+-- `are_allowed` meets its contract: the library's `all` is that of specs/.
+use Rattle.std.proofs.Common.{rules, ◌∙◌, sym}
+use borrow.Author.Tests.{tests}
+use Rattle.std.proofs.lemmas.Iterator.{YieldsList-from_slice}
+use Rattle.std.proofs.lemmas.Iterator.Search.{all_from_yields_List}
 use Rattle.text.specs.Text.{allowed}
-use Rattle.text.proofs.Places.{all_none, all-not, all-on}
-use Rattle.text.proofs.Flags.{Flag, flag-start, flag-on, flag_off, flag-end}
+use Rattle.text.proofs.Words.{all_is}
 use Rattle.text_bytes.proofs.texts.are_allowed.Goals as goal
-use Rattle.text_bytes.proofs.texts.are_allowed.Goals.{else-not-is_allowed, then-not-is_allowed}
-
-pub loop-i-init : goal.loop-i-init
-loop-i-init c = (flag-start _, search rules)
-
-pub loop-i-preserved : goal.loop-i-preserved
-loop-i-preserved c =
-    let e = sym c.is_allowed.ensures in (
-      (elim c.if-not-is_allowed.branch [ then-not-is_allowed w ↦ rw (w.good-is, and-false) (flag_off _ _ _ c.loop-i.invariant.0 (all-not allowed 0 _ _ c.loop-i-test.true (e ∙ w.if-not-is_allowed.true))) | else-not-is_allowed w ↦ rw w.good-is (flag-on _ _ _ c.loop-i.invariant.0 _ (all-on allowed 0 _ _ c.loop-i-test.true (e ∙ w.if-not-is_allowed.false))) ]),
-      search rules,
-    )
 
 pub returns : goal.returns
-returns c = flag-end _ _ _ c.loop-i.invariant.0 (all_none allowed 0 _ _ c.loop-i-test.false)
+returns c = all_from_yields_List allowed _ _ _ c.all.ensures.ran (YieldsList-from_slice c.args.s.now (cc)) (λ x b q k. search (rules, tests)) ∙ sym (all_is allowed c.args.s.now)

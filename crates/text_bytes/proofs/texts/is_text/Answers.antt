@@ -1,21 +1,29 @@
--- `is_text` meets its contract: bytes of a text's size are a text where every byte is one of a text.
-use mathlib.Core.Path.{sym, ◌∙◌}
-use borrow.Author.Rules.{rules}
-use Rattle.text.proofs.Bytes.{text-none, text-long, text-sized}
+-- `is_text` meets its contract: one test after the other.
+use Rattle.std.proofs.Common.{◌∙◌, sym, ◌≡◌, ◌≤◌, ◌<◌, ◌⊎◌, inl, inr, length, arith}
+use Rattle.text.proofs.Bytes.{text-sized, text-none, text-long}
 use Rattle.text_bytes.proofs.texts.is_text.Goals as goal
-
-pub returns-then-s-eq0 : goal.returns-then-s-eq0
-returns-then-s-eq0 c = sym (text-none _ c.if-s-eq0.true)
-
-pub returns-then-s-gt64 : goal.returns-then-s-gt64
-returns-then-s-gt64 c = sym (text-long _ c.if-s-gt64.true)
+use Rattle.text_bytes.proofs.texts.is_text.Goals.{then-contains, else-contains}
 
 pub returns-then-are_text_bytes : goal.returns-then-are_text_bytes
 returns-then-are_text_bytes c =
-    let bytes = sym c.are_text_bytes.ensures ∙ c.if-are_text_bytes.true in
-    c.well_formed-then-are_text_bytes.ensures ∙ sym (text-sized _ c.if-s-eq0.false c.if-s-gt64.false ∙ rw bytes)
+    let s = c.args.s.now in
+    elim c.if-contains.branch [
+      | then-contains w ↦
+          let size : (1 ≤ length s) × (length s ≤ 64) = grind arith in
+          let bytes = sym w.are_text_bytes.ensures ∙ sym w.value-is ∙ c.if-are_text_bytes.true in
+          c.well_formed-then-are_text_bytes.ensures ∙ sym (text-sized s (λ e. omega arith) size.1 ∙ rw bytes)
+      | else-contains w ↦ cc
+    ]
 
-pub returns : goal.returns
-returns c =
-    let bytes = sym c.are_text_bytes.ensures ∙ c.if-are_text_bytes.false in
-    sym (text-sized _ c.if-s-eq0.false c.if-s-gt64.false ∙ rw bytes)
+pub returns-else-are_text_bytes : goal.returns-else-are_text_bytes
+returns-else-are_text_bytes c =
+    let s = c.args.s.now in
+    elim c.if-contains.branch [
+      | then-contains w ↦
+          let size : (1 ≤ length s) × (length s ≤ 64) = grind arith in
+          let bytes = sym w.are_text_bytes.ensures ∙ sym w.value-is ∙ c.if-are_text_bytes.false in
+          c.if-are_text_bytes.false ∙ sym (text-sized s (λ e. omega arith) size.1 ∙ rw bytes)
+      | else-contains w ↦
+          let size : (length s ≡ 0) ⊎ (64 < length s) = grind arith in
+          c.if-are_text_bytes.false ∙ sym (elim size [ inl e ↦ text-none s e | inr e ↦ text-long s e ])
+    ]

@@ -1,11 +1,18 @@
--- `put` meets its contract: all of the text is stored, or none of it, or as much as has room.
-use mathlib.Core.Path.{sym}
+-- `put` meets its contract: what has room is copied, and all is counted.
+use Rattle.std.proofs.Common.{rules, ◌≡◌, ◌∙◌, ◌+◌, ◌-◌, sym, take, arith}
 use Rattle.output.proofs.Pour.{both, pour-past}
-use borrow.Author.Rules.{rules}
+use Rattle.output.proofs.Tails.{pour-part}
 use Rattle.text_out.proofs.write.put.Goals as goal
+use Rattle.text_out.proofs.write.put.Goals.{then-at-out, else-at-out}
 
-pub returns-then-end-out : goal.returns-then-end-out
-returns-then-end-out c = both _ _ _ _ _ c.sum-end.ensures c.copy.ensures
-
-pub returns-then-out-at : goal.returns-then-out-at
-returns-then-out-at c = both _ _ _ _ _ c.sum-end.ensures (sym (pour-past _ _ _ c.if-out-at.true))
+pub returns : goal.returns
+returns c =
+    let g = c.args in
+    both _ _ _ _ _ c.sum.ensures (elim c.if-at-out.branch [
+      | then-at-out w ↦
+          let room = w.min-room.result in
+          let size : g.at + room - g.at ≡ room = omega arith in
+          let part : w.copy_from_slice.new.self ≡ take room g.text.now = search rules in
+          w.out-is ∙ rw (size, part) (pour-part g.at room g.text.now g.out.now (omega arith) w.min-room.ensures)
+      | else-at-out w ↦ w.out-is ∙ sym (pour-past _ _ _ w.if-at-out.false)
+    ])

@@ -1,9 +1,7 @@
--- `put_natural` meets its contract: one digit, or the digits behind the place k are found, from the last one on.
-use native.Mathlib.Omega.{arith}
+-- `put_natural` meets its contract: the digits behind the place k are found, from the last one on.
 use mathlib.Core.Path.{◌≡◌}
-use lib.ListN.{length, length-set}
-use borrow.Author.Rules.{rules}
-use Rattle.text_out.proofs.Digits.{Behind, behind-all, place-left, behind_more, behind-none, one-digit}
+use lib.ListN.{length}
+use Rattle.text_out.proofs.Digits.{Behind}
 use Rattle.text_out.proofs.write.put_natural.Given as goal
 
 abbrev pub invariant-loop-left : goal.invariant-loop-left

@@ -1,15 +1,10 @@
 -- `block_length` and `statement_length` meet their contracts: each return, and each turn of the loop, is a law of proofs/Counting.antt.
 use borrow.Author.Rules.{rules}
-use Prim.Native.Nat.{ℕ, ◌*◌, ◌+◌, ◌<◌, ◌≤◌}
 use mathlib.Core.Path.{sym, ◌∙◌}
 use native.Mathlib.Omega.{arith}
-use lib.ListN.{length, drop}
-use Rattle.lines.specs.declared.Form.TheVariants.{Guide as a_guide}
-use Rattle.lines.specs.Clean.{Clean}
-use Rattle.guide.specs.Lines.{lines_at}
 use Rattle.guide.proofs.Reading.{rest-no-more, begins-less, else-less}
 use Rattle.translate.specs.Lengths.{block_length}
-use Rattle.translate.proofs.Counting.{LeftFrom, begun, same_size, table-size, block-ends, block_more, plain-length, if-closed, if-turned}
+use Rattle.translate.proofs.Counting.{begun, same_size, table-size, block-ends, block_more, plain-length, if-closed, if-turned}
 use Rattle.translate.proofs.lengths.+block_length_statement_length.Goals as goal
 
 pub block_length-loop-at-init : goal.block_length-loop-at-init

@@ -1,15 +1,10 @@
 -- The measure of `block_length` and `statement_length` is the number of unread lines, twice.
-use borrow.Author.Rules.{rules}
-use Prim.Native.Nat.{ℕ, ◌*◌, ◌+◌, ◌<◌, ◌≤◌}
-use mathlib.Core.Path.{sym, ◌∙◌}
-use native.Mathlib.Omega.{arith}
+use Prim.Native.Nat.{◌*◌, ◌+◌, ◌≤◌}
 use lib.ListN.{length, drop}
 use Rattle.lines.specs.declared.Form.TheVariants.{Guide as a_guide}
 use Rattle.lines.specs.Clean.{Clean}
 use Rattle.guide.specs.Lines.{lines_at}
-use Rattle.guide.proofs.Reading.{rest-no-more, begins-less, else-less}
-use Rattle.translate.specs.Lengths.{block_length}
-use Rattle.translate.proofs.Counting.{LeftFrom, begun, same_size, table-size, block-ends, block_more, plain-length, if-closed, if-turned}
+use Rattle.translate.proofs.Counting.{LeftFrom}
 use Rattle.translate.proofs.lengths.+block_length_statement_length.Given as goal
 
 abbrev pub decreases-block_length : goal.decreases-block_length

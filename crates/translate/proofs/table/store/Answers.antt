@@ -1,7 +1,6 @@
 -- `store` meets its contract: with a place for the number or without.
 use mathlib.Core.Path.{sym}
 use Rattle.output.proofs.Pour.{pour-one, pour-past}
-use borrow.Author.Rules.{rules}
 use Rattle.translate.proofs.table.store.Goals as goal
 
 pub returns-then-number-skips : goal.returns-then-number-skips

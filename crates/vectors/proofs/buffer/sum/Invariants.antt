@@ -1,12 +1,9 @@
 -- `sum` meets its contract: the sum so far is that of the bytes before the place, and stays below the modulus.
-use Prim.Native.Nat.{◌-◌, ◌<◌}
+use Prim.Native.Nat.{◌<◌}
 use mathlib.Core.Path.{◌≡◌}
-use lib.ListN.{length, take}
+use lib.ListN.{take}
 use Rattle.vectors.specs.Sums.{sum_of}
 use Rattle.vectors.proofs.buffer.sum.Given as goal
 
-abbrev pub invariant-loop-i : goal.invariant-loop-i
-invariant-loop-i l = (l.sum ≡ sum_of l.factor l.modulus (take l.i l.bytes)) × (l.sum < l.modulus)
-
-abbrev pub decreases-loop-i : goal.decreases-loop-i
-decreases-loop-i l = length l.bytes - l.i
+abbrev pub invariant-loop-byte : goal.invariant-loop-byte
+invariant-loop-byte l = (l.sum ≡ sum_of l.factor l.modulus (take l.byte-index l.bytes)) × (l.sum < l.modulus)

@@ -1,11 +1,9 @@
--- `signed` meets its contract: the lower half as it is, the upper half by the complement of its bits.
-use mathlib.Core.Path.{ap, ◌∙◌}
-use Rattle.vectors.specs.Input.{signed_of}
-use Rattle.vectors.proofs.Signs.{signed-plain, signed_below}
+-- `signed` meets its contract: the number's bits with their sign.
+use Rattle.std.proofs.lemmas.Int.{of_z-to_z}
+use mir.Syntax.{w32}
+use Rattle.vectors.proofs.Signs.{signed-bits}
+use borrow.Author.Rules.{rules}
 use Rattle.vectors.proofs.input.signed.Goals as goal
 
-pub returns-then-n-lt2147483648 : goal.returns-then-n-lt2147483648
-returns-then-n-lt2147483648 c = signed-plain _ c.if-n-lt2147483648.true ∙ ap signed_of c.number-n.ensures.value
-
-pub returns-else-n-lt2147483648 : goal.returns-else-n-lt2147483648
-returns-else-n-lt2147483648 c = signed_below _ c.if-n-lt2147483648.false c.number-n.ensures.upper_bound ∙ ap signed_of c.number-n.ensures.value
+pub returns : goal.returns
+returns c = rw (c.cast_signed.ensures, of_z-to_z w32 c.word.result (search rules), ← c.word.ensures) (signed-bits _ (search rules))

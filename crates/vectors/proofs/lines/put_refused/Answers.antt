@@ -5,5 +5,5 @@ use Rattle.vectors.proofs.lines.put_refused.Goals as goal
 
 pub returns : goal.returns
 returns c =
-    let number = rw c.number_of-number.ensures at c.put_labelled-end.ensures in
+    let number = rw c.from.ensures at c.put_labelled-end.ensures in
     then _ _ _ _ _ _ _ number c.put_labelled.ensures (omega arith)

@@ -3,7 +3,6 @@ use native.Mathlib.Omega.{arith}
 use Rattle.machine.proofs.Passes.{too_short}
 use Rattle.walk.proofs.Counted.{few-counted, counted-size, counted-clean}
 use Rattle.walk.proofs.Rooms.{text-fits, text-ends, text-written}
-use borrow.Author.Rules.{rules}
 use Rattle.walk.proofs.passes.write.Goals as goal
 
 pub overflow_mul-guide : goal.overflow_mul-guide

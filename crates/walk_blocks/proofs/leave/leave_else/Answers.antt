@@ -3,7 +3,6 @@ use native.Mathlib.Omega.{arith}
 use Rattle.guide.proofs.Reading.{rest-no-more}
 use Rattle.walk_blocks.proofs.Leaving.{leaves-as, paced-here}
 use Rattle.walk_blocks.proofs.Cycle.{leave-second}
-use borrow.Author.Rules.{rules}
 use Rattle.walk_blocks.proofs.leave.leave_else.Goals as goal
 
 pub returns : goal.returns

@@ -5,7 +5,6 @@ use Rattle.walk_blocks.proofs.Leaving.{leaves-as, paced-here}
 use Rattle.guide.proofs.Reading.{rest-no-more, else-less}
 use Rattle.guide.proofs.Passing.{passed-no-more}
 use Rattle.walk_blocks.proofs.Cycle.{leave-turned, leave-closed}
-use borrow.Author.Rules.{rules}
 use Rattle.walk_blocks.proofs.leave.leave_true.Goals as goal
 
 pub stepped-n-requires : goal.stepped-n-requires

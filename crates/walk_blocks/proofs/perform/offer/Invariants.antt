@@ -1,16 +1,11 @@
 -- `offer` meets its contract: at each turn of the loop what is left to do is the question with so many wrong answers.
-use native.Mathlib.Omega.{arith}
-use native.Mathlib.Numerals.{add-one}
-use borrow.Author.Rules.{rules}
 use Prim.Native.Nat.{◌+◌, ◌-◌, ◌≤◌}
-use mathlib.Core.Path.{◌≡◌, refl, sym, ◌∙◌}
+use mathlib.Core.Path.{◌≡◌}
 use mathlib.Core.List.{[]}
 use lib.ListN.{length, drop, get_or}
 use Rattle.text.specs.Parts.{split, comma}
-use Rattle.transcript.specs.Perform.{perform}
 use Rattle.transcript.specs.Machine.{machine_state, laid}
 use Rattle.transcript.proofs.Tries.{question}
-use Rattle.statements.proofs.Tries.{lay-left, lay-again}
 use Rattle.walk_blocks.proofs.perform.offer.Given as goal
 
 abbrev pub invariant-loop-end : goal.invariant-loop-end

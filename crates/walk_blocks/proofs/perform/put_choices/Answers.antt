@@ -1,6 +1,5 @@
 -- `put_choices` meets its contract: the bytes of the line from the question on, behind the letter.
 use Rattle.walk_blocks.proofs.Options.{question-there, offered-line}
-use borrow.Author.Rules.{rules}
 use Rattle.walk_blocks.proofs.perform.put_choices.Goals as goal
 
 pub slice_bounds-put_offered-count : goal.slice_bounds-put_offered-count

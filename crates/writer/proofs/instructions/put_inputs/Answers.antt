@@ -7,7 +7,7 @@ use Rattle.writer.proofs.instructions.put_inputs.Goals as goal
 pub returns : goal.returns
 returns c =
     let s = c.args.line.now in
-    let question = rw (chosen-text s _ _ c.requires.2 c.find-e.ensures.value c.requires.3, code-register 1 c.args.register) at c.put_text-end.ensures in
-    let number = rw c.requires.4 at c.put_bits-end.ensures in
+    let question = rw (chosen-text s _ _ c.requires.1 c.find-e.ensures.value c.requires.2, code-register 1 c.args.register) at c.put_text-end.ensures in
+    let number = rw c.requires.3 at c.put_bits-end.ensures in
     let front = both _ _ _ _ question number c.requires.0 in
-    both _ _ _ _ front (rw (chosen-options s _ _ c.requires.2 c.find-e.ensures.value c.requires.3) at c.put_texts.ensures) c.requires.0
+    both _ _ _ _ front (rw (chosen-options s _ _ c.requires.1 c.find-e.ensures.value c.requires.2) at c.put_texts.ensures) c.requires.0

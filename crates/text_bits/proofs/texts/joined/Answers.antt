@@ -1,0 +1,28 @@
+-- `joined` meets its contract: the characters passed are the number so far.
+use native.Mathlib.Omega.{arith}
+use lib.Pow.{pow_pos}
+use Rattle.text_bits.proofs.Characters.{joined-none, joined-all, joined-more, joined-small}
+use Rattle.text_bits.proofs.Codes.{unit-is}
+use Rattle.text_bits.proofs.texts.joined.Goals as goal
+
+pub loop-c-init : goal.loop-c-init
+loop-c-init c = joined-none _ _
+
+pub nonzero_rem-value : goal.nonzero_rem-value
+nonzero_rem-value c = rw (unit-is c.args.width (omega arith)) (pow_pos c.args.width)
+
+pub overflow_mul-value : goal.overflow_mul-value
+overflow_mul-value c =
+    let small = joined-small _ _ _ _ c.loop-c.invariant c.loop-c-test.true c.requires.1 in
+    rw (unit-is c.args.width (omega arith)) (omega (arith, small))
+
+pub overflow_add-value : goal.overflow_add-value
+overflow_add-value c =
+    let small = joined-small _ _ _ _ c.loop-c.invariant c.loop-c-test.true c.requires.1 in
+    rw (unit-is c.args.width (omega arith)) (omega (arith, small))
+
+pub loop-c-preserved : goal.loop-c-preserved
+loop-c-preserved c = rw (unit-is c.args.width (omega arith)) (joined-more _ _ _ _ c.loop-c.invariant c.loop-c-test.true)
+
+pub returns : goal.returns
+returns c = joined-all _ _ _ _ c.loop-c.invariant (omega arith)

@@ -36,7 +36,7 @@ fn produce(
     requires { Counted form skips.now text.now instructions }
     ensures { Produced known.now.book (record { own = known.now.own; instructions = lines_code skips.now (lines_of form text.now) }) out.old result out.new }
 {
-    let mut end = plate_room::put_front(out, known, instructions);
+    let mut end = plate_room::put_front(out, known.own_lines(), known.own_count(), instructions);
     let mut left = instructions;
     let mut a = 0;
     while a < text.len() {

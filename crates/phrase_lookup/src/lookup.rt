@@ -2,7 +2,7 @@
 ghost use Rattle.std.specs.Prelude.{◌≡◌, true, false, ◌+◌, ◌≤◌, ◌<◌, length};
 ghost use Rattle.causes.specs.Limits.{most_phrases, most_own};
 ghost use Rattle.phrases.specs.Phrases.{Phrases, find};
-ghost use Rattle.phrases.specs.Lookup.{book_texts, phrases_in, phrase_in, found_answer};
+ghost use Rattle.phrases.specs.Lookup.{book_texts, own_texts, phrases_in, phrase_in, found_answer};
 ghost use Rattle.phrases.specs.Index.{Indexed};
 ghost use Rattle.phrases.specs.Own.{OwnAt, OwnNumbers, Listed};
 ghost use Rattle.phrase_lookup.specs.Found.{Has, phrase_at};
@@ -56,6 +56,13 @@ impl<'a> Lookup<'a> {
         ensures upper_bound { result ≤ most_own }
     {
         self.count
+    }
+
+    // The lines of the own phrases: the text whose first lines they are.
+    pub fn own_lines(&self) -> &'a [u8]
+        ensures { own_texts (length self.now.own) result.now ≡ self.now.own }
+    {
+        self.own
     }
 
     // How many phrases there are.

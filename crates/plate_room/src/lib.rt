@@ -1,7 +1,8 @@
 // What a plate has besides its instructions, for the translator and the converter: its front, which is the own phrases and the number of
 // instructions; the filling behind the last one; the room that a plate takes in a lent buffer; and a plate that was made in an array, in a
 // lent buffer.
-// `put_front` and `put_fill` store their bits as the writers of crate text_bits do.
+// `put_front` and `put_fill` store their bits as the writers of crate text_bits do. `own` is a text whose first `count` lines are
+// `phrase,TEXT`.
 #![tactic(auto)]
 
 mod lent;

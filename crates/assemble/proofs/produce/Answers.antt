@@ -31,7 +31,7 @@ pub overflow_sub-instructions : goal.overflow_sub-instructions
 overflow_sub-instructions c = omega (arith, c.loop-a.invariant.0.few)
 
 pub overflow_add-result : goal.overflow_add-result
-overflow_add-result c = omega (arith, c.own_count.ensures.upper_bound, c.requires.few)
+overflow_add-result c = omega (arith, c.own_count-then-behind-skip.ensures.upper_bound, c.requires.few)
 
 pub overflow_sub-result : goal.overflow_sub-result
 overflow_sub-result c = omega (arith, c.loop-a.invariant.0.few)
@@ -39,7 +39,7 @@ overflow_sub-result c = omega (arith, c.loop-a.invariant.0.few)
 pub returns-then-behind-skip : goal.returns-then-behind-skip
 unfolding Produced
 returns-then-behind-skip c =
-    (refl, rw c.own_count.ensures.value (goes-past c.loop-a.invariant.0 c.loop-a-test.true c.find-e.ensures.value c.find-e.ensures.upper_bound c.accepted_line-head.ensures c.count_of.ensures c.skip_at.ensures c.skip_of-skip.ensures c.if-behind-skip.true))
+    (refl, rw c.own_count-then-behind-skip.ensures.value (goes-past c.loop-a.invariant.0 c.loop-a-test.true c.find-e.ensures.value c.find-e.ensures.upper_bound c.accepted_line-head.ensures c.count_of.ensures c.skip_at.ensures c.skip_of-skip.ensures c.if-behind-skip.true))
 
 pub put-end-requires : goal.put-end-requires
 put-end-requires c =
@@ -59,5 +59,6 @@ unfolding Produced program_bits
 returns c =
     let a = c.args in
     let lines = done c.loop-a.invariant.1 (bits-end _ a.form a.skips.now a.text.now (a.instructions - c.loop-a.left) _ c.loop-a-test.false) in
-    let program = both _ _ _ _ c.put_front-end.ensures lines (omega arith) in
+    let front = rw (c.own_count.ensures.value, c.own_lines.ensures) at c.put_front-end.ensures in
+    let program = both _ _ _ _ front lines (omega arith) in
     (searched-end c.loop-a.invariant.0 c.loop-a-test.false, rw (← c.requires.count) (filling _ _ program c.put_fill.ensures (omega arith)))

@@ -4,4 +4,4 @@ use Rattle.plate_room.proofs.own.put_front.Goals as goal
 
 pub returns : goal.returns
 returns c =
-    both _ _ _ _ c.put_own-end.ensures c.put_bits.ensures c.requires
+    both _ _ _ _ c.put_own-end.ensures c.put_bits.ensures c.requires.0

@@ -1,25 +1,27 @@
--- `put_phrases` meets its contract: the phrases from number k on are left to write.
-use native.Mathlib.Omega.{arith}
-use native.Mathlib.Numerals.{add-one}
-use mathlib.Core.Path.{refl, ap}
-use mathlib.Core.List.{[]}
+-- `put_phrases` meets its contract: the phrases from the place a on are left to write.
+use mathlib.Core.Path.{ap}
 use borrow.Author.Rules.{rules}
-use lib.ListN.{drop_of_length-le}
-use lib.Seq.{drop-cons}
+use Rattle.bits.specs.Bits.{bytes_bits}
+use Rattle.phrases.specs.Lookup.{own_texts}
+use Rattle.phrases.proofs.FirstLines.{own-whole, own-none, own-end, own-next}
 use Rattle.plate.specs.Writing.{phrases_bits}
 use Rattle.text_bits.proofs.Writes.{begun, turned, done}
 use Rattle.plate_room.proofs.own.put_phrases.Goals as goal
 
-pub loop-k-init : goal.loop-k-init
-loop-k-init c = begun _ _ refl (search rules)
+pub loop-init : goal.loop-init
+loop-init c = (begun _ _ (ap phrases_bits (own-whole _ _)) (search rules), search rules)
 
-pub loop-k-preserved : goal.loop-k-preserved
+pub returns-then-own-a : goal.returns-then-own-a
 unfolding phrases_bits
-loop-k-preserved c =
-    let first = drop-cons c.args.known.now.own c.loop-k.k [] (omega (arith, c.loop-k-test.true, c.own_count-k-end.ensures.value)) in
-    turned c.loop-k.invariant _ _ (rw add-one (ap phrases_bits first)) (rw c.text.ensures at c.put_spelled-end.ensures) c.requires
+returns-then-own-a c = done c.loop.invariant.0 (ap phrases_bits (own-end _ _ _ _ c.if-own-a.true))
+
+pub loop-preserved : goal.loop-preserved
+unfolding bytes_bits phrases_bits own_texts
+loop-preserved c =
+    let next = ap phrases_bits (own-next _ _ _ _ _ c.loop-test.true c.if-own-a.false c.find-e.ensures.value) in
+    let spelled = rw c.part.ensures at c.put_spelled-end.ensures in
+    (turned c.loop.invariant.0 _ _ next spelled c.requires, search rules)
 
 pub returns : goal.returns
 unfolding phrases_bits
-returns c =
-    done c.loop-k.invariant (ap phrases_bits (drop_of_length-le c.args.known.now.own {i = c.loop-k.k} (omega (arith, c.loop-k-test.false, c.own_count-k-end.ensures.value))))
+returns c = done c.loop.invariant.0 (ap phrases_bits (own-none _ _ _ _ c.loop-test.false))

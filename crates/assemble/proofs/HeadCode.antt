@@ -112,7 +112,7 @@ module _ (c : Phrases) (k : ℕ) (h : Head) (fs : List Text) (at : ℕ) (old : L
       → last ≡ poured at (instructions_bits c (head_code k h fs)) old
   else-put j f = one-put (goto k) (rw j) f
 
-  pub other-put : ((test : Test) → h ≡ head.If test → ⊥) → (h ≡ head.Else → ⊥) → last ≡ poured at (line_bits c h fs) old
+  pub other-put : ((test : Test) → h ≡ head.If test → ⊥) → (h ≡ head.Else → ⊥) → last ≡ poured at (line_bits c (Ok h) fs) old
       → last ≡ poured at (instructions_bits c (head_code k h fs)) old
   unfolding line_bits
   other-put o p f = f ∙ ap (λ (is : List Instruction). poured at (instructions_bits c is) old) (other-code k h fs o p)

@@ -59,6 +59,6 @@ pub fn put(
     match head {
         Head::If { test } => writer::put_if(out, at, test, skip),
         Head::Else => writer::put_goto(out, at, skip),
-        _ => writer::put_line(out, at, head, line, known),
+        _ => writer::put_line(out, at, Ok(head), line, known),
     }
 }

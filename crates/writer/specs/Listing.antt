@@ -1,10 +1,14 @@
 -- The bits of one line of a listing.
-use Rattle.std.specs.Prelude.{List, [], ◌∷◌, Bool, drop, get_or}
+use Rattle.std.specs.Prelude.{ℕ, ◌≡◌, List, [], ◌∷◌, Bool, drop, get_or, Result, Ok, Err}
+use Rattle.causes.specs.declared.Cause.{Cause}
 use Rattle.text.specs.Text.{Text}
 use Rattle.phrases.specs.Phrases.{Phrases}
 use Rattle.transcript.specs.Statement.{input, inputs, print, printex}
+use Rattle.lines.specs.declared.Form.{Form}
 use Rattle.lines.specs.declared.Head.{Head}
 use Rattle.lines.specs.declared.Head.TheVariants as head
+use Rattle.lines.specs.Line.{line_of}
+use Rattle.lines.specs.Answers.{head_of}
 use Rattle.plate.specs.Program.{Instruction, statement, goto, if_skip}
 use Rattle.plate.specs.Writing.{instructions_bits}
 
@@ -23,6 +27,11 @@ line_instruction (head.If t) fs = []
 line_instruction head.Else fs = []
 line_instruction head.Fi fs = []
 
--- its bits
-unfoldable pub line_bits : Phrases → Head → List Text → List Bool
-line_bits c h fs = instructions_bits c (line_instruction h fs)
+-- the head of the line s in a guide or in a listing, or the line's cause
+abbrev pub HeadOf : Result Head Cause → List ℕ → Type 0
+HeadOf r s = (form : Form) × (r ≡ head_of (line_of form s))
+
+-- the bits of the line; a line that has a cause has none
+unfoldable pub line_bits : Phrases → Result Head Cause → List Text → List Bool
+line_bits c (Ok h) fs = instructions_bits c (line_instruction h fs)
+line_bits c (Err cause) fs = []

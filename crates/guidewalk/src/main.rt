@@ -7,6 +7,17 @@
 use refusal_words::Counted;
 use std::io;
 
+// What is printed of a guide, whose walk leaves its transcript in the lent space. This stands apart from `main`, so that a proof about it does
+// not go over the elements of the space.
+fn print_walk(rt: &HostRuntime, guide: &[u8], transcript: &mut [u8]) -> io::Result<()> {
+    tools::with_answers(
+        rt,
+        Counted::Lines,
+        transcript,
+        |book, answers, transcript| walk::walk(guide, book, answers, transcript),
+    )
+}
+
 fn main(rt: HostRuntime) -> io::Result<()> {
     if tools::argument_count(&rt, 3) < 3 {
         return eprintln!(rt;
@@ -17,7 +28,5 @@ fn main(rt: HostRuntime) -> io::Result<()> {
     let Some(length) = tools::read_file(&rt, 1, &mut guide) else {
         return Ok(());
     };
-    tools::with_answers(&rt, Counted::Lines, |book, answers, transcript| {
-        walk::walk(&guide[..length], book, answers, transcript)
-    })
+    print_walk(&rt, &guide[..length], &mut tools::transcript_space())
 }

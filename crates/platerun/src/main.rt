@@ -7,6 +7,15 @@
 use refusal_words::Counted;
 use std::io;
 
+// What is printed of a plate, whose run leaves its transcript in the lent space. This stands apart from `main`, so that a proof about it does
+// not go over the elements of the space.
+fn print_run(rt: &HostRuntime, plate: &[u8], transcript: &mut [u8]) -> io::Result<()> {
+    tools::with_answers(rt, Counted::Bits, transcript, |book, answers, transcript| {
+        let mut scratch = [0; run::SCRATCH_NUMBERS];
+        run::run(plate, book, answers, &mut scratch, transcript)
+    })
+}
+
 fn main(rt: HostRuntime) -> io::Result<()> {
     if tools::argument_count(&rt, 3) < 3 {
         return eprintln!(rt;
@@ -17,8 +26,5 @@ fn main(rt: HostRuntime) -> io::Result<()> {
     let Some(size) = tools::read_plate(&rt, 1, &mut plate) else {
         return Ok(());
     };
-    tools::with_answers(&rt, Counted::Bits, |book, answers, transcript| {
-        let mut scratch = [0; run::SCRATCH_NUMBERS];
-        run::run(&plate[..size], book, answers, &mut scratch, transcript)
-    })
+    print_run(&rt, &plate[..size], &mut tools::transcript_space())
 }

@@ -7,5 +7,5 @@ use std::io;
 fn main(rt: HostRuntime) -> io::Result<()> {
     let mut guide = [0; tools::GUIDE];
     let length = tools::read_full(&mut rt.stdin(), &mut guide)?;
-    show::print_shown(&rt, &guide[..length])
+    show::print_shown(&rt, &guide[..length], &mut [0; show::OUTPUT])
 }

@@ -77,7 +77,11 @@ shown-most guide = go (translation [] guide) refl
         let r = translation-refused guide cause place e in
         rw r.text (omega (arith, refused-line-most cause place r.small))
 
--- so in a buffer of as many bytes or more, all of it stands at the front
+-- so that many bytes are printed at most
+pub printed-most : (guide out after : List ℕ) (n : ℕ) → (n, after) ≡ poured 0 (shown guide) out → n ≤ 333593
+printed-most guide out after n e = omega (arith, ended 0 (shown guide) out n after e, shown-most guide)
+
+-- and in a buffer of as many bytes or more, all of it stands at the front
 pub printed-fits : (guide out after : List ℕ) (n : ℕ) → (n, after) ≡ poured 0 (shown guide) out → 333593 ≤ length out → Front n after
 printed-fits guide out after n e h =
     let size = ended 0 (shown guide) out n after e in

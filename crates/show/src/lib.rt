@@ -12,7 +12,7 @@ ghost use Rattle.show.specs.Show.{shown};
 
 use causes::Written;
 use causes::limits::{LISTING_BYTES, PLATE_BYTES};
-pub use print::print_shown;
+pub use print::{OUTPUT, print_shown};
 
 // What plateshow prints, from the buffer's front on, as far as it goes; and its length.
 pub fn show(guide: &[u8], out: &mut [u8]) -> usize

@@ -1,7 +1,8 @@
 // A tool's call, with the book and the answers that its arguments give, and what is printed of its answer.
+ghost use Rattle.std.specs.Prelude.{◌≡◌, length};
+
 use crate::answers::read_answers;
 use crate::files::read_file;
-use crate::spaces::transcript_space;
 use crate::{ANSWERS, BOOK};
 use causes::{Ran, Refusal, Report, Written};
 use printed::front;
@@ -37,6 +38,7 @@ pub fn with_book<F: FnOnce(&[u8], &mut [u8]) -> Written, G: FnOnce(&[u8]) -> io:
 ) -> io::Result<()>
     requires callable { F.IsAlwaysCallable call }
     requires showable { G.IsAlwaysCallable show }
+    ensures { length out.new ≡ length out.old }
 {
     let mut book = [0; BOOK];
     let Some(length) = read_file(rt, 2, &mut book) else {
@@ -48,24 +50,16 @@ pub fn with_book<F: FnOnce(&[u8], &mut [u8]) -> Written, G: FnOnce(&[u8]) -> io:
     }
 }
 
-// What is printed of a walk or a run: the transcript and the report, or the refusal.
-fn print<F: FnOnce(&mut [u8]) -> Ran>(rt: &HostRuntime, counted: Counted, call: F) -> io::Result<()>
-    requires { F.IsAlwaysCallable call }
-{
-    let mut transcript = transcript_space();
-    match call(&mut transcript) {
-        Err(r) => refuse(rt, counted, r),
-        Ok(r) => report(rt, &transcript, r),
-    }
-}
-
-// Walks or runs with the book of argument 2 and the answers from argument 3 on, if they can be read, and prints it.
+// Walks or runs with the book of argument 2 and the answers from argument 3 on, if they can be read, and prints the transcript, which the call
+// leaves in the lent space, and the report, or the refusal.
 pub fn with_answers<F: FnOnce(&[u8], &[i32], &mut [u8]) -> Ran>(
     rt: &HostRuntime,
     counted: Counted,
+    transcript: &mut [u8],
     call: F,
 ) -> io::Result<()>
     requires { F.IsAlwaysCallable call }
+    ensures { length transcript.new ≡ length transcript.old }
 {
     let mut book = [0; BOOK];
     let Some(length) = read_file(rt, 2, &mut book) else {
@@ -75,7 +69,8 @@ pub fn with_answers<F: FnOnce(&[u8], &[i32], &mut [u8]) -> Ran>(
     let Some(count) = read_answers(rt, 3, &mut answers) else {
         return Ok(());
     };
-    print(rt, counted, |transcript| {
-        call(&book[..length], &answers[..count], transcript)
-    })
+    match call(&book[..length], &answers[..count], transcript) {
+        Err(r) => refuse(rt, counted, r),
+        Ok(r) => report(rt, transcript, r),
+    }
 }

@@ -14,6 +14,7 @@ pub use answers::{argument_count, read_answers};
 pub use calls::{with_answers, with_book};
 pub use files::{read_file, read_plate};
 pub use reading::read_full;
+pub use spaces::transcript_space;
 
 // How many bytes of a book are enough. A good book has at most 256 lines of 65 bytes, 16,640. Of a longer one the first bad line starts
 // behind at most 256 good ones, so that it has a byte within the first 16,641: it stands there whole, and is as bad, or it is cut off,

@@ -11,7 +11,7 @@ fn tell(rt: &HostRuntime, bytes: &[u8]) {
 }
 
 // A line with a number in it.
-pub fn tell_number(rt: &HostRuntime, first: &str, n: usize, last: &str) {
+pub(crate) fn tell_number(rt: &HostRuntime, first: &str, n: usize, last: &str) {
     let _ = eprintln!(rt; "{first}{n}{last}");
 }
 

@@ -4,12 +4,13 @@
 // the line. What does not fit its space, or stands past the input's end, is left out, and the lines then differ.
 // In vectors_call the number of the call stands before a case, in vectors_agree nothing. Behind the book stand the answers of a walk, and
 // the answers and the scratch length of a run.
-ghost use Rattle.std.specs.Prelude.{IfSome};
+// Last, the steps through an input that is read whole (src/input.rt reads its numbers and slices): a caller's closure makes them, so that
+// little can be promised of them too.
+ghost use Rattle.std.specs.Prelude.{◌≡◌, ◌^◌, ◌<◌, length, Ok, IfSome};
 ghost use Rattle.vectors.specs.Front.{Front, Fronts};
 
 use crate::buffer::{fill, lent};
 use crate::reading::read_full;
-use crate::spaces::{ANSWERS, BOOK, INPUT, lent_space};
 use std::io;
 use std::io::Read;
 
@@ -25,7 +26,9 @@ pub struct Case {
 }
 
 // The number of the next four bytes, the lowest first; none where the input ends.
-pub fn read_number<R: Read>(from: &mut R) -> Option<usize> {
+pub fn read_number<R: Read>(from: &mut R) -> Option<usize>
+    ensures { IfSome result (λ n. n < 2 ^ 32) }
+{
     let mut bytes = [0; 4];
     if read_full(from, &mut bytes) < 4 {
         return None;
@@ -88,19 +91,6 @@ pub fn read_scratch<R: Read>(from: &mut R, space: &[u16]) -> usize
 
 // All cases: `case` is lent the spaces of a guide, listing or plate, a book, answers and an output, and answers whether there was one more.
 pub fn each_case<F: FnMut(&mut [u8], &mut [u8], &mut [i32], &mut [u8]) -> io::Result<bool>>(
-    case: F,
-) -> io::Result<()>
-    requires { F.IsAlwaysCallable case }
-{
-    let mut input = [0; INPUT];
-    let mut book = [0; BOOK];
-    let mut answers = [0; ANSWERS];
-    let mut out = lent_space();
-    each_in(&mut input, &mut book, &mut answers, &mut out, case)
-}
-
-// The same in these spaces.
-fn each_in<F: FnMut(&mut [u8], &mut [u8], &mut [i32], &mut [u8]) -> io::Result<bool>>(
     input: &mut [u8],
     book: &mut [u8],
     answers: &mut [i32],
@@ -108,11 +98,32 @@ fn each_in<F: FnMut(&mut [u8], &mut [u8], &mut [i32], &mut [u8]) -> io::Result<b
     mut case: F,
 ) -> io::Result<()>
     requires { F.IsAlwaysCallable case }
+    ensures input_kept { length input.new ≡ length input.old }
+    ensures book_kept { length book.new ≡ length book.old }
+    ensures answers_kept { length answers.new ≡ length answers.old }
+    ensures out_kept { length out.new ≡ length out.old }
 {
     for _ in 0..MOST_CASES {
         if !case(input, book, answers, out)? {
             break;
         }
+    }
+    Ok(())
+}
+
+// Steps through the input from its front: a step is given a place, and answers the place behind what it took. The last one comes to the
+// input's end, or does not go on.
+pub fn each_place<F: FnMut(usize) -> io::Result<usize>>(s: &[u8], mut step: F) -> io::Result<()>
+    requires { F.IsAlwaysCallable step }
+    ensures { length s.now ≡ 0 → result ≡ Ok tt }
+{
+    let mut at = 0;
+    while at < s.len() {
+        let next = step(at)?;
+        if next <= at {
+            break;
+        }
+        at = next;
     }
     Ok(())
 }

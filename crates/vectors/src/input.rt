@@ -4,8 +4,6 @@
 ghost use Rattle.std.specs.Prelude.{◌≡◌, ◌<◌};
 ghost use Rattle.vectors.specs.Input.{byte_at, number_at, long_at, signed_of, slice_at, slice_end};
 
-use std::io;
-
 // The byte at a place.
 pub fn byte(s: &[u8], at: usize) -> u8
     ensures { result ≡ byte_at s.now at }
@@ -60,20 +58,4 @@ pub fn past_slice(s: &[u8], at: usize) -> usize
     ensures { result ≡ slice_end s.now at }
 {
     at.saturating_add(4).saturating_add(number(s, at))
-}
-
-// Steps through the input from its front: a step is given a place, and answers the place behind what it took. The last one comes to the
-// input's end, or does not go on.
-pub fn each_place<F: FnMut(usize) -> io::Result<usize>>(s: &[u8], mut step: F) -> io::Result<()>
-    requires { F.IsAlwaysCallable step }
-{
-    let mut at = 0;
-    while at < s.len() {
-        let next = step(at)?;
-        if next <= at {
-            break;
-        }
-        at = next;
-    }
-    Ok(())
 }

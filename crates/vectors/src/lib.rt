@@ -10,8 +10,8 @@ mod reading;
 mod spaces;
 
 pub use buffer::{fill, lent, put_buffer};
-pub use cases::{Case, each_case, read_answers, read_case, read_number, read_scratch};
-pub use input::{byte, each_place, long_number, number, past_slice, signed, slice};
+pub use cases::{Case, each_case, each_place, read_answers, read_case, read_number, read_scratch};
+pub use input::{byte, long_number, number, past_slice, signed, slice};
 pub use lines::{print_line, put_ran, put_written};
 pub use reading::read_full;
-pub use spaces::{CASES, SCRATCH, lent_space};
+pub use spaces::{ANSWERS, BOOK, CASES, INPUT, SCRATCH, lent_space};

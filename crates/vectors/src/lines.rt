@@ -1,6 +1,6 @@
 // The line that a vector program writes a call's answer as: document 01's number and place, or the result's values; then the whole of the
 // lent output. model/README.md has the format.
-ghost use Rattle.std.specs.Prelude.{◌≡◌};
+ghost use Rattle.std.specs.Prelude.{◌≡◌, length};
 ghost use Rattle.causes.specs.Answers.{written_answer, ran_answer, ended, refusing};
 ghost use Rattle.causes.specs.Causes.{outcome_number, wrong_answers};
 ghost use Rattle.output.specs.Pour.{poured};
@@ -75,11 +75,15 @@ pub fn put_ran(out: &mut [u8], at: usize, answer: Ran, lent: &[u8]) -> usize
     put_lent(out, end, lent)
 }
 
-// Prints a line of a call's case, which has fewer than 256 bytes: `put` fills it, and answers where it ends.
-pub fn print_line<F: FnOnce(&mut [u8]) -> usize>(rt: &impl Print, put: F) -> io::Result<()>
+// Prints a line of a call's case, which `put` writes into the lent space: it answers where the line ends.
+pub fn print_line<F: FnOnce(&mut [u8]) -> usize>(
+    rt: &impl Print,
+    line: &mut [u8],
+    put: F,
+) -> io::Result<()>
     requires { F.IsAlwaysCallable put }
+    ensures { length line.new ≡ length line.old }
 {
-    let mut line = [0; 256];
-    let end = put(&mut line);
-    rt.write_all(front(&line, end))
+    let end = put(line);
+    rt.write_all(front(line, end))
 }

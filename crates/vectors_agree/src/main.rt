@@ -73,7 +73,7 @@ fn case(
     let lent = vectors::lent(other, c.lent);
     let second = &mut other[..lent];
     vectors::fill(second);
-    vectors::print_line(rt, |line| {
+    vectors::print_line(rt, &mut [0; 256], |line| {
         call(
             line,
             &input[..c.input],
@@ -88,7 +88,13 @@ fn case(
 
 // All cases, up to the end of standard input, with a second output.
 fn cases(rt: &HostRuntime, other: &mut [u8]) -> io::Result<()> {
-    vectors::each_case(|input, book, answers, out| case(rt, input, book, answers, out, other))
+    vectors::each_case(
+        &mut [0; vectors::INPUT],
+        &mut [0; vectors::BOOK],
+        &mut [0; vectors::ANSWERS],
+        &mut vectors::lent_space(),
+        |input, book, answers, out| case(rt, input, book, answers, out, other),
+    )
 }
 
 fn main(rt: HostRuntime) -> io::Result<()> {

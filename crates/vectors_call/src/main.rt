@@ -37,7 +37,11 @@ fn case(
     let out = &mut out[..c.lent];
     if call < 3 {
         let answer = written(call, input, book, out);
-        vectors::print_line(rt, |line| vectors::put_written(line, 0, answer, out))?;
+        vectors::print_line(
+            rt,
+            &mut [0; 256],
+            |line| vectors::put_written(line, 0, answer, out),
+        )?;
         return Ok(true);
     }
     let count = vectors::read_answers(&mut from, answers);
@@ -50,13 +54,21 @@ fn case(
         }
         _ => return Ok(false),
     };
-    vectors::print_line(rt, |line| vectors::put_ran(line, 0, answer, out))?;
+    vectors::print_line(
+        rt,
+        &mut [0; 256],
+        |line| vectors::put_ran(line, 0, answer, out),
+    )?;
     Ok(true)
 }
 
 fn main(rt: HostRuntime) -> io::Result<()> {
     let mut scratch = [0; vectors::SCRATCH];
-    vectors::each_case(|input, book, answers, out| {
-        case(&rt, input, book, answers, &mut scratch, out)
-    })
+    vectors::each_case(
+        &mut [0; vectors::INPUT],
+        &mut [0; vectors::BOOK],
+        &mut [0; vectors::ANSWERS],
+        &mut vectors::lent_space(),
+        |input, book, answers, out| case(&rt, input, book, answers, &mut scratch, out),
+    )
 }

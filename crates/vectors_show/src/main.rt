@@ -7,7 +7,7 @@ use std::io;
 // All guides, up to the end of what was read.
 fn guides(rt: &impl Print, s: &[u8]) -> io::Result<()> {
     vectors::each_place(s, |at| {
-        show::print_shown(rt, vectors::slice(s, at))?;
+        show::print_shown(rt, vectors::slice(s, at), &mut [0; show::OUTPUT])?;
         Ok(vectors::past_slice(s, at))
     })
 }

@@ -10,6 +10,7 @@ use causes::Cause;
 use lines::{Form, Head};
 
 // Whether the fields are one text: 4 where there is another count of fields, 5 where the field is no text. A text has no comma, so it is the only field.
+#[inline(always)]
 pub fn judge_text(s: &[u8], a: usize) -> Result<(), Cause>
     ensures { result ≡ one_text is_text (parts_from comma a s.now) }
 {

@@ -1,5 +1,5 @@
 -- A phrase by its place among the book's or the own ones, as the lookup finds it.
-use Rattle.std.specs.Prelude.{ℕ, ◌<◌, [], length, get_or}
+use Rattle.std.specs.Prelude.{◌<◌, [], length, get_or}
 use Rattle.text.specs.Text.{Text}
 use Rattle.phrases.specs.Phrases.{Phrases}
 use Rattle.phrases.specs.declared.Found.{Found}

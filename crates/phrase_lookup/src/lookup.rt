@@ -73,6 +73,7 @@ impl<'a> Lookup<'a> {
     }
 
     // Where a text is a phrase: its place in the book, else among the own phrases.
+    #[inline(always)]
     pub fn find(&self, text: &[u8]) -> Option<Found>
         ensures { result ≡ found_answer (find self.now text.now) }
     {
@@ -92,6 +93,7 @@ impl<'a> Lookup<'a> {
 }
 
 // The place of a text in the book, else among the own phrases, which are the first `count` lines of `own`.
+#[inline(always)]
 pub fn find_phrase(
     index: &[u32],
     book: &[u8],

@@ -57,6 +57,7 @@ pub fn last_size(plate: &[u8], at: usize, width: usize) -> Result<Field<usize>, 
 }
 
 // The same of 7 bits, eight characters read at once; one by one where fewer than eight bytes are left.
+#[inline(always)]
 pub fn read_size(plate: &[u8], at: usize) -> Result<Field<usize>, Refusal>
     requires { length plate.now ≤ most_plate_bytes }
     ensures { size_read 7 plate.now at result ≡ until_etx 7 (place_at plate.now at) }

@@ -39,6 +39,7 @@ fn is_no_phrase(plate: &[u8], bit: usize, size: usize, known: &Lookup) -> bool
 }
 
 // The size of a text that is spelled out, and the bit behind its ETX.
+#[inline(always)]
 pub fn read_spelled(plate: &[u8], at: usize, known: &Lookup) -> Result<Field<usize>, Refusal>
     requires { length plate.now ≤ most_plate_bytes }
     ensures { size_read 7 plate.now at result ≡ spelled 7 (is_new known.now.book known.now.own) (place_at plate.now at) }

@@ -3,8 +3,8 @@ use Prim.Native.Nat.{ℕ, ◌+◌, ◌*◌, ◌/◌, ◌%◌, ◌^◌, ◌≤◌
 use native.Mathlib.Omega.{arith}
 use native.Mathlib.Nat.{mod-lt, lt_of_lt_of_le, le_trans, mul-le-mul, div-mul-le_self, le-div_iff_mul-le}
 use native.Mathlib.Numerals.{add-one}
-use mathlib.Core.Path.{◌≡◌, refl}
-use mathlib.Core.List.{[], ◌∷◌, ◌++◌, append_assoc}
+use mathlib.Core.Path.{◌≡◌, refl, sym, ◌∙◌}
+use mathlib.Core.List.{[], ◌∷◌, ◌++◌, append_assoc, append-nil}
 use lib.ListN.{length, take, get_or}
 use lib.Seq.{take-suc, take-length, append_snoc}
 use lib.Arith.{digits_lt}
@@ -60,3 +60,9 @@ module _ (w : ℕ) where
     joined-small k =
         let part : (n + 1) * w ≤ 56 = le_trans (mul-le-mul {n₁ = n + 1} {m₁ = w} {n₂ = length t} {m₂ = w} (omega arith) (omega arith)) k in
         lt_of_lt_of_le joined-more.below (pow_mono {i = (n + 1) * w} {j = 56} part)
+
+-- the text behind which ETX stands, as one number
+module _ (w v : ℕ) (t : Text) (is : (rest : Text) → spelled_bits w (t ++ rest) ≡ bits_of (length t * w) v ++ spelled_bits w rest) where
+  pub ended : ETX % 2 ^ w ≡ ETX → spelled_bits w t ≡ bits_of (length t * w + w) (v * 2 ^ w + ETX)
+  unfolding spelled_bits
+  ended h = rw (append-nil t) at (is []) ∙ sym (rw h at (bits-behind (length t * w) w v ETX))

@@ -1,5 +1,5 @@
 // Texts: spelled, or as the place of a phrase.
-ghost use Rattle.std.specs.Prelude.{◌≡◌, ◌++◌, ◌*◌, ◌≤◌, ◌<◌, length};
+ghost use Rattle.std.specs.Prelude.{◌≡◌, ◌++◌, ◌*◌, ◌^◌, ◌≤◌, ◌<◌, length};
 ghost use Rattle.causes.specs.Limits.{most_plate_bytes};
 ghost use Rattle.output.specs.Pour.{poured};
 ghost use Rattle.bits.specs.Bits.{bits_of, bytes_bits};
@@ -15,10 +15,14 @@ use phrases::{Found, width_of};
 // The character that ends a spelled text.
 const ETX: usize = 3;
 
+// A text of so many characters of 7 bits is written at once, with what goes before it and ETX.
+const SHORT: usize = 5;
+
 // The lowest `width` bits of each of some characters, as one number.
 fn joined(width: usize, group: &[u8]) -> usize
     requires { (width ≤ 8) × (length group.now * width ≤ 56) }
-    ensures { (rest : Text) → spelled_bits width (group.now ++ rest) ≡ bits_of (length group.now * width) result ++ spelled_bits width rest }
+    ensures value { (rest : Text) → spelled_bits width (group.now ++ rest) ≡ bits_of (length group.now * width) result ++ spelled_bits width rest }
+    ensures below { result < 2 ^ (length group.now * width) }
 {
     let unit: usize = 1 << width;
     let mut value = 0;
@@ -49,7 +53,7 @@ fn put_behind(
     places: usize,
     i: usize,
 ) -> usize
-    requires { (width ≤ 11) × (front < 2048) × (places ≤ 16) }
+    requires { (width ≤ 11) × (front < 2048) × (places ≤ 45) }
     ensures { (result, bytes_bits out.new) ≡ poured at (bits_of width front ++ bits_of places i) (bytes_bits out.old) }
 {
     let unit: usize = 1 << places;
@@ -83,6 +87,19 @@ fn put_place(
     }
 }
 
+// What goes before an ASCII text, `width` bits of a number; then 00 and the text in 7 bits: all as one number where the text is short.
+fn put_ascii(out: &mut [u8], at: usize, width: usize, front: usize, text: &[u8]) -> usize
+    requires { (length out.old ≤ most_plate_bytes) × (width ≤ 8) × (front < 256) }
+    ensures { (result, bytes_bits out.new) ≡ poured at (bits_of width front ++ bits_of 2 0 ++ spelled_bits 7 text.now) (bytes_bits out.old) }
+{
+    if text.len() <= SHORT {
+        let spelled = joined(7, text) * 128 + ETX;
+        return put_behind(out, at, width + 2, front * 4, text.len() * 7 + 7, spelled);
+    }
+    let end = bits_out::put_bits(out, at, width + 2, front * 4);
+    put_spelled(out, end, 7, text)
+}
+
 // What goes before a text that is no phrase, `width` bits of a number; then 00 and the text in 7 bits where it is ASCII, else 01 and the
 // text in 8 bits.
 fn put_new(out: &mut [u8], at: usize, width: usize, front: usize, text: &[u8]) -> usize
@@ -90,8 +107,7 @@ fn put_new(out: &mut [u8], at: usize, width: usize, front: usize, text: &[u8]) -
     ensures { (result, bytes_bits out.new) ≡ poured at (bits_of width front ++ spelled_text text.now) (bytes_bits out.old) }
 {
     if utf8::is_ascii(text) {
-        let end = bits_out::put_bits(out, at, width + 2, front * 4);
-        put_spelled(out, end, 7, text)
+        put_ascii(out, at, width, front, text)
     } else {
         let end = bits_out::put_bits(out, at, width + 2, front * 4 + 1);
         put_spelled(out, end, 8, text)

@@ -24,11 +24,12 @@ fn is_text_byte(b: u8) -> bool
     is_allowed(b) && b != b','
 }
 
-// Whether every byte is one of a text.
+// Whether every byte is one of a text. It does not stop at a byte that is not, so that many are taken at a time: with `all` the calls were slower
+// than the straightforward Rust on long texts.
 fn are_text_bytes(s: &[u8]) -> bool
     ensures { result ≡ all text_byte s.now }
 {
-    s.iter().all(|&b| is_text_byte(b))
+    s.iter().fold(true, |good, &b| good & is_text_byte(b))
 }
 
 // Whether the bytes are a text: 1 to 64 allowed bytes with no comma, which are well-formed.

@@ -54,3 +54,7 @@ behind-none v digits left k b h l =
     let at = drop-at-set digits k (48 + left) (omega (arith, b.place, h)) in
     let is : left % 10 ≡ left = omega arith in
     take_all (20 - k) (drop k all) (omega (arith, length-drop k all, length-set digits k (48 + left))) ∙ at ∙ sym (b.found ∙ rw (decimalℕ-one left l, is))
+
+-- a number of one digit
+pub one-digit : (v : ℕ) → v < 10 → decimalℕ v ≡ (48 + v) ∷ []
+one-digit v h = let is : v % 10 ≡ v = omega arith in rw is at (decimalℕ-one v h)

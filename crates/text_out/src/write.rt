@@ -1,6 +1,6 @@
 // Writing bytes, texts and numbers at a place of a lent buffer, as far as it goes.
-ghost use Rattle.std.specs.Prelude.{◌≡◌, [], ◌∷◌};
-ghost use Rattle.output.specs.Pour.{poured};
+ghost use Rattle.std.specs.Prelude.{◌≡◌, [], ◌∷◌, ◌+◌, ◌≤◌, length};
+ghost use Rattle.output.specs.Pour.{pour, poured};
 ghost use Rattle.decimals.specs.Number.{decimalℕ, decimal};
 
 // A byte, where there is room.
@@ -13,21 +13,35 @@ pub fn put_byte(out: &mut [u8], at: usize, b: u8) -> usize
     output::sum(at, 1)
 }
 
+// A text that has room from a place on. By a loop, since the library's copy of a slice calls `memmove` here, which the archive for C would then
+// need from outside.
+fn copy(out: &mut [u8], at: usize, text: &[u8])
+    requires { at + length text.now ≤ length out.old }
+    ensures { out.new ≡ pour at text.now out.old }
+{
+    for (i, &b) in text.iter().enumerate() {
+        out[at + i] = b;
+    }
+}
+
 // A text: the part of it that has room is copied.
 pub fn put(out: &mut [u8], at: usize, text: &[u8]) -> usize
     ensures { (result, out.new) ≡ poured at text.now out.old }
 {
     if at < out.len() {
         let room = text.len().min(out.len() - at);
-        out[at..at + room].copy_from_slice(&text[..room]);
+        copy(out, at, &text[..room]);
     }
     output::sum(at, text.len())
 }
 
-// A number from 0 on, the highest digit first: its digits are found from the last one on.
+// A number from 0 on, the highest digit first. One digit, as most numbers of a line have, is put at once; several are found from the last one on.
 pub fn put_natural(out: &mut [u8], at: usize, v: usize) -> usize
     ensures { (result, out.new) ≡ poured at (decimalℕ v) out.old }
 {
+    if v < 10 {
+        return put_byte(out, at, b'0' + v as u8);
+    }
     let mut digits = [0u8; 20];
     let mut left = v;
     let mut k = 19;

@@ -1,49 +1,51 @@
 -- `begin` meets its contract: one row of the table after the other.
-use Rattle.std.proofs.Common.{refl, arith}
+use mathlib.Core.Path.{refl, sym, ap, ◌∙◌}
+use native.Mathlib.Omega.{arith}
 use Rattle.text.specs.Parts.{all}
+use Rattle.utf8.specs.Due.{step_of}
 use Rattle.text.proofs.Table.{letter_at, begins-never}
 use Rattle.utf8.proofs.begin.Goals as goal
 
-pub returns-in-0-to-127 : goal.returns-in-0-to-127
+pub returns-then-b-lt128 : goal.returns-then-b-lt128
 unfolding all
-returns-in-0-to-127 c = letter_at _ 0 (omega arith) refl (omega arith) (omega arith)
+returns-then-b-lt128 c = letter_at _ 0 (omega arith) refl (omega arith) (omega arith) ∙ ap step_of (sym c.awaiting.ensures)
 
-pub returns-in-194-to-223 : goal.returns-in-194-to-223
+pub returns-then-b-lt194 : goal.returns-then-b-lt194
 unfolding all
-returns-in-194-to-223 c = letter_at _ 1 (omega arith) refl (omega arith) (omega arith)
+returns-then-b-lt194 c = begins-never _ 0x80 0xC1 _ refl (omega arith) (omega arith)
 
-pub returns-in-224 : goal.returns-in-224
+pub returns-then-b-lt224 : goal.returns-then-b-lt224
 unfolding all
-returns-in-224 c = letter_at _ 2 (omega arith) refl (omega arith) (omega arith)
+returns-then-b-lt224 c = letter_at _ 1 (omega arith) refl (omega arith) (omega arith) ∙ ap step_of (sym c.awaiting-then-b-lt224.ensures)
 
-pub returns-in-225-to-236 : goal.returns-in-225-to-236
+pub returns-then-b-eq224 : goal.returns-then-b-eq224
 unfolding all
-returns-in-225-to-236 c = letter_at _ 3 (omega arith) refl (omega arith) (omega arith)
+returns-then-b-eq224 c = letter_at _ 2 (omega arith) refl (omega arith) (omega arith) ∙ ap step_of (sym c.awaiting-then-b-eq224.ensures)
 
-pub returns-in-237 : goal.returns-in-237
+pub returns-then-b-lt237 : goal.returns-then-b-lt237
 unfolding all
-returns-in-237 c = letter_at _ 4 (omega arith) refl (omega arith) (omega arith)
+returns-then-b-lt237 c = letter_at _ 3 (omega arith) refl (omega arith) (omega arith) ∙ ap step_of (sym c.awaiting-then-b-lt237.ensures)
 
-pub returns-in-238-to-239 : goal.returns-in-238-to-239
+pub returns-then-b-eq237 : goal.returns-then-b-eq237
 unfolding all
-returns-in-238-to-239 c = letter_at _ 5 (omega arith) refl (omega arith) (omega arith)
+returns-then-b-eq237 c = letter_at _ 4 (omega arith) refl (omega arith) (omega arith) ∙ ap step_of (sym c.awaiting-then-b-eq237.ensures)
 
-pub returns-in-240 : goal.returns-in-240
+pub returns-then-b-lt240 : goal.returns-then-b-lt240
 unfolding all
-returns-in-240 c = letter_at _ 6 (omega arith) refl (omega arith) (omega arith)
+returns-then-b-lt240 c = letter_at _ 5 (omega arith) refl (omega arith) (omega arith) ∙ ap step_of (sym c.awaiting-then-b-lt240.ensures)
 
-pub returns-in-241-to-243 : goal.returns-in-241-to-243
+pub returns-then-b-eq240 : goal.returns-then-b-eq240
 unfolding all
-returns-in-241-to-243 c = letter_at _ 7 (omega arith) refl (omega arith) (omega arith)
+returns-then-b-eq240 c = letter_at _ 6 (omega arith) refl (omega arith) (omega arith) ∙ ap step_of (sym c.awaiting-then-b-eq240.ensures)
 
-pub returns-in-244 : goal.returns-in-244
+pub returns-then-b-lt244 : goal.returns-then-b-lt244
 unfolding all
-returns-in-244 c = letter_at _ 8 (omega arith) refl (omega arith) (omega arith)
+returns-then-b-lt244 c = letter_at _ 7 (omega arith) refl (omega arith) (omega arith) ∙ ap step_of (sym c.awaiting-then-b-lt244.ensures)
 
-pub returns-in_default : goal.returns-in_default
+pub returns-then-b-eq244 : goal.returns-then-b-eq244
 unfolding all
-returns-in_default c = begins-never _ 0x80 0xC1 _ refl (omega arith) (omega arith)
+returns-then-b-eq244 c = letter_at _ 8 (omega arith) refl (omega arith) (omega arith) ∙ ap step_of (sym c.awaiting-then-b-eq244.ensures)
 
-pub returns-in_default-2 : goal.returns-in_default-2
+pub returns : goal.returns
 unfolding all
-returns-in_default-2 c = begins-never _ 0xF5 0xFF _ refl (omega arith) (omega arith)
+returns c = begins-never _ 0xF5 0xFF _ refl (omega arith) (omega arith)

@@ -1,13 +1,7 @@
--- `well_formed` meets its contract: what is due and the bytes left are well-formed where the whole is.
-use Rattle.std.proofs.Common.{refl, sym, ◌∙◌}
-use Rattle.text.specs.Utf8.{well_formed}
-use Rattle.utf8.specs.Due.{due_of}
-use Rattle.utf8.proofs.Steps.{step_end, at-end}
+-- `well_formed` meets its contract: ASCII is well-formed.
+use mathlib.Core.Path.{sym, ◌∙◌}
+use Rattle.text.proofs.Letters.{well-ascii}
 use Rattle.utf8.proofs.well_formed.Goals as goal
 
-pub loop-b-init : goal.loop-b-init
-unfolding well_formed
-loop-b-init c = refl
-
-pub returns : goal.returns
-returns c = let due = c.loop-b.due in sym (sym c.loop-b.invariant ∙ at-end _ _ (due_of due) c.loop-b-test.false ∙ step_end due.count due.least due.most)
+pub returns-then-is_ascii : goal.returns-then-is_ascii
+returns-then-is_ascii c = c.if-is_ascii.true ∙ sym (well-ascii _ (sym c.is_ascii.ensures ∙ c.if-is_ascii.true))

@@ -1,5 +1,7 @@
 -- `joined` meets its contract: the characters passed are the number so far.
 use native.Mathlib.Omega.{arith}
+use mathlib.Core.Path.{◌≡◌}
+use lib.ListN.{length}
 use lib.Pow.{pow_pos}
 use Rattle.text_bits.proofs.Characters.{joined-none, joined-all, joined-more, joined-small}
 use Rattle.text_bits.proofs.Codes.{unit-is}
@@ -24,5 +26,8 @@ overflow_add-value c =
 pub loop-c-preserved : goal.loop-c-preserved
 loop-c-preserved c = rw (unit-is c.args.width (omega arith)) (joined-more _ _ _ _ c.loop-c.invariant c.loop-c-test.true)
 
-pub returns : goal.returns
-returns c = joined-all _ _ _ _ c.loop-c.invariant (omega arith)
+pub returns-clause-value : goal.returns-clause-value
+returns-clause-value c = joined-all _ _ _ _ c.loop-c.invariant (omega arith)
+
+pub returns-clause-below : goal.returns-clause-below
+returns-clause-below c = let e : c.loop-c.c-index ≡ length c.args.group.now = omega arith in rw e at c.loop-c.invariant.below

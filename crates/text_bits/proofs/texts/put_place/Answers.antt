@@ -19,12 +19,12 @@ placed c =
 pub put_behind-requires : goal.put_behind-requires
 put_behind-requires c =
     let p = placed (goal.at.put_behind-requires c).Joined-found in
-    (omega arith, omega arith, p.few)
+    (omega arith, omega arith, omega (arith, p.few))
 
 pub put_behind-requires-else-own-eq0 : goal.put_behind-requires-else-own-eq0
 put_behind-requires-else-own-eq0 c =
     let p = placed (goal.at.put_behind-requires-else-own-eq0 c).Joined-found in
-    (omega arith, omega (arith, p.low), p.few)
+    (omega arith, omega (arith, p.low), omega (arith, p.few))
 
 pub returns-then-own-eq0 : goal.returns-then-own-eq0
 returns-then-own-eq0 c = λ t h.

@@ -27,7 +27,7 @@ joined-requires c = (search rules, group_fits _ _ (omega (arith, c.in-Some.ensur
 pub loop-group-preserved : goal.loop-group-preserved
 loop-group-preserved c =
     let steps = c.in-Some.ensures.steps in
-    let front = ap (spelled_bits c.args.width) steps.1.0 ∙ c.joined.ensures c.next.new.self.rest.now in
+    let front = ap (spelled_bits c.args.width) steps.1.0 ∙ c.joined.ensures.value c.next.new.self.rest.now in
     record {
       left = turned c.loop-group.invariant.left _ _ front c.put_bits-end.ensures c.requires.0;
       size = steps.0 ∙ c.loop-group.invariant.size;

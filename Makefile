@@ -1,8 +1,9 @@
 # test: the whole verdict, from nothing. show: the listing and the plate of a guide.
 # library: the C archive and its header, in target/library. example-c: a C program that links it, on the guides of examples/.
+# outside: what the archive needs from outside, which is memcpy and memset alone.
 # fuzz: the archive beside the model on N cases of a seed. bench: time, growth, stack, bytes of code and, by count, instructions (callgrind).
 # tools: the four tools, each as crates/NAME/out/NAME. tools-test: their stored runs. names: what the documents name, looked up.
-.PHONY: test show library example-c fuzz bench count harness-test tools tools-test names
+.PHONY: test show library outside example-c fuzz bench count harness-test tools tools-test names
 
 GUIDE = examples/incident.guide
 N = 1000000
@@ -41,6 +42,9 @@ library:
 
 $(ARCHIVE): crates.txt include/doorplate.h $(wildcard crates/*/src/*.rt)
 	$(MAKE) library
+
+outside: $(ARCHIVE)
+	test "$$(nm -u $(ARCHIVE) | awk 'NF == 2 { print $$2 }' | sort -u | xargs)" = "memcpy memset"
 
 example-c: $(ARCHIVE)
 	$(CC) $(C_FLAGS) -I $(LIBRARY) examples/c/runguide.c $(ARCHIVE) -o $(LIBRARY)/runguide

@@ -1,6 +1,6 @@
 #!/bin/sh
-# What make test runs behind the model's tests: rt ci; then, where it passed and no must-fail edit is bad, the archive beside the model,
-# the C example, the stored runs of the tools, and the names in the documents.
+# What make test runs behind the model's tests: rt ci; then, where it passed and no must-fail edit is bad, what the archive needs
+# from outside, the archive beside the model, the C example, the stored runs of the tools, and the names in the documents.
 # The last line is rt ci's own tally, or says what failed.
 set -u
 cd "$(dirname "$0")/.." || exit 2
@@ -34,6 +34,7 @@ step() { # WORDS..
 }
 
 step library
+step outside
 step fuzz N=100000
 step harness-test
 step example-c

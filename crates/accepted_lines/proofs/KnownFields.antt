@@ -5,10 +5,10 @@ use native.Mathlib.Numerals.{add-one}
 use mathlib.Core.Path.{◌≡◌, refl, sym, ap, ◌∙◌}
 use mathlib.Core.List.{List, [], ◌∷◌}
 use mathlib.Core.Bool.{Bool, true, false, cond}
-use lib.ListN.{length, take, drop, get_or, length-drop}
+use lib.ListN.{length, take, drop, get_or, length-drop, drop_of_length-le}
 use lib.Seq.{length-take-le, get_or-take, get_or-drop, drop-cons}
 use lib.Dec.{eqb}
-use borrow.Author.Tests.{eqb-true, ne_eqb}
+use borrow.Author.Tests.{eqb-true, eq-eqb, ne_eqb}
 use Rattle.text.specs.Parts.{comma, parts_from, split, on_first, until_byte}
 use Rattle.text.proofs.Places.{parts-some, parts_next}
 use Rattle.lines.proofs.FieldPlaces.{fields-there}
@@ -70,7 +70,17 @@ first s a h =
 -- ---- one byte further
 
 module _ (s : List ℕ) (i : ℕ) where
+  pub at-end : length s ≡ i → parts_from comma i s ≡ [] ∷ []
+  unfolding split
+  at-end e = let k : length s ≤ i = omega arith in parts-some comma s i (omega arith) ∙ rw (drop_of_length-le s k)
+
   module _ (h : i < length s) where
+    pub at-comma : get_or s i 0 ≡ comma → parts_from comma i s ≡ [] ∷ parts_from comma (i + 1) s
+    unfolding split
+    at-comma e =
+        parts-some comma s i (omega arith)
+        ∙ rw (drop-cons s i 0 h, eq-eqb (get_or s i 0) comma e, parts-some comma s (i + 1) (omega arith), add-one)
+
     at_byte : (get_or s i 0 ≡ comma → ⊥) → parts_from comma i s ≡ on_first (get_or s i 0) (parts_from comma (i + 1) s)
     unfolding split
     at_byte n =

@@ -1,13 +1,12 @@
 -- The bytes of a register, of an operator and of a number that are known to be right.
-use Prim.Native.Nat.{ℕ, zero, suc, ◌+◌, ◌*◌, ◌-◌, ◌/◌, ◌%◌, ◌≤◌, ◌<◌}
+use Prim.Native.Nat.{ℕ, ◌+◌, ◌*◌, ◌-◌, ◌/◌, ◌%◌, ◌≤◌, ◌<◌}
 use native.Mathlib.Omega.{arith}
 use mathlib.Core.Path.{◌≡◌, refl, sym, ap, ◌∙◌}
 use mathlib.Core.List.{List, [], ◌∷◌, ◌++◌}
 use mathlib.Core.Bool.{Bool, true, false, cond}
 use Rattle.std.specs.Prelude.{Option, Some}
-use lib.ListN.{length, drop, get_or, length-drop}
-use lib.Seq.{drop-cons}
-use native.Mathlib.Numerals.{add-one}
+use lib.ListN.{length, take, drop, get_or, length-drop}
+use lib.Seq.{length-take-le, get_or-take, get_or-drop}
 use lib.Dec.{eqb, ltb}
 use borrow.Author.Tests.{ltb-true, ltb-false, ne_eqb}
 use Rattle.text.specs.Quoted.{bytes}
@@ -19,7 +18,7 @@ use Rattle.transcript.specs.declared.Op.{Op}
 use Rattle.transcript.specs.declared.Op.TheVariants.{Eq, Ne, Lt, Le, Gt, Ge}
 use Rattle.lines.specs.Line.{operator}
 use Rattle.lines.proofs.FieldPlaces.{fields-there}
-use Rattle.accepted_lines.proofs.KnownFields.{First, first}
+use Rattle.accepted_lines.proofs.KnownFields.{First, first, byte-first, byte-rest}
 
 -- fields are there where their number is not 0
 some-there : (s : List ℕ) (a : ℕ) → 2 ≤ length (parts_from comma a s) → a ≤ length s
@@ -134,21 +133,48 @@ module _ {s : List ℕ} {a : ℕ} {fs : List (List ℕ)} {op : Op} (k : Operator
 
 -- ---- digits
 
-pub value_grows : (n : ℕ) (s : List ℕ) → n ≤ value_from n s
+value_grows : (n : ℕ) (s : List ℕ) → n ≤ value_from n s
 unfolding value_from
 value_grows n [] = omega arith
 value_grows n (b ∷ s) = let l = value_grows (n * 10 + (b - 48)) s in omega arith
 
--- one digit of digits more
-module _ (p : List ℕ) (value i : ℕ) (d : all is_digit p ≡ true) (h : i < length p) where
-  pub digit-at : (48 ≤ get_or p i 0) × (get_or p i 0 ≤ 57)
-  digit-at = go p i d h
-    where
-      go : (p : List ℕ) (i : ℕ) → all is_digit p ≡ true → i < length p → (48 ≤ get_or p i 0) × (get_or p i 0 ≤ 57)
-      go [] i d h = absurd (omega arith)
-      go (b ∷ p) zero d h = digit-bounds b (all_first is_digit b p d)
-      go (b ∷ p) (suc i) d h = go p i (all_rest is_digit b p d) (omega arith)
+-- the bytes from a on, by their place behind it
+pub there : (s : List ℕ) (a : ℕ) → length (take (length s - a) (drop a s)) ≡ length s - a
+there s a = length-take-le (length s - a) (drop a s) (omega (arith, length-drop a s))
 
-  pub value-next : value_from value (drop i p) ≡ value_from (value * 10 + (get_or p i 0 - 48)) (drop (i + 1) p)
+pub byte-there : (s : List ℕ) (a i : ℕ) → i < length (take (length s - a) (drop a s))
+    → (a + i < length s) × (get_or (take (length s - a) (drop a s)) i 0 ≡ get_or s (a + i) 0)
+byte-there s a i h =
+    let l = there s a in
+    (omega arith, get_or-take (length s - a) (drop a s) i 0 (omega arith) ∙ get_or-drop a s i 0)
+
+-- the digits from a up to i have this value, and those from i on are still to be read
+pub record Reading (s : List ℕ) (a value i : ℕ) : Type 0 where
+  pub whole : value_from 0 (get_or (parts_from comma a s) 0 []) ≡ value_from value (get_or (parts_from comma i s) 0 [])
+  pub digits : all is_digit (get_or (parts_from comma i s) 0 []) ≡ true
+  pub rest : drop 1 (parts_from comma i s) ≡ drop 1 (parts_from comma a s)
+  pub most : value_from value (get_or (parts_from comma i s) 0 []) ≤ 2147483648
+
+pub reading-below : {s : List ℕ} {a value i : ℕ} → Reading s a value i → value ≤ 2147483648
+reading-below {s} {a} {value} {i} r = omega (arith, r.most, value_grows value (get_or (parts_from comma i s) 0 []))
+
+module _ (s : List ℕ) (a value i : ℕ) (h : i < length s) (n : get_or s i 0 ≡ comma → ⊥) (r : Reading s a value i) where
+  pub reading-digit : (48 ≤ get_or s i 0) × (get_or s i 0 ≤ 57)
+  reading-digit = digit-bounds (get_or s i 0) (all_first is_digit (get_or s i 0) _ (rw (byte-first s i h n) at r.digits))
+
+  pub reading-turn : Reading s a (value * 10 + (get_or s i 0 - 48)) (i + 1)
   unfolding value_from
-  value-next = rw (drop-cons p i 0 h, add-one)
+  reading-turn =
+      let f = byte-first s i h n in
+      record {
+        whole = rw f at r.whole;
+        digits = all_rest is_digit (get_or s i 0) _ (rw f at r.digits);
+        rest = sym (byte-rest s i h n) ∙ r.rest;
+        most = rw f at r.most;
+      }
+
+-- the digits end
+pub reading-ends : {s : List ℕ} {a value i : ℕ} {gs : List (List ℕ)} → Reading s a value i → parts_from comma i s ≡ [] ∷ gs
+    → (value ≡ value_from 0 (get_or (parts_from comma a s) 0 [])) × (gs ≡ drop 1 (parts_from comma a s))
+unfolding value_from
+reading-ends r e = (sym (rw e at r.whole), rw e at r.rest)

@@ -62,14 +62,19 @@ pub fn known_number(s: &[u8], a: usize) -> Known<usize>
     ensures value_value { result.value ≡ value_from 0 (get_or (parts_from comma a s.now) 0 []) }
     ensures s_value { parts_from comma result.next s.now ≡ drop 1 (parts_from comma a s.now) }
 {
-    let end = text::find(s, a, b',');
     let mut value = 0;
-    for b in &s[a..end] {
+    for (i, &b) in s[a..].iter().enumerate() {
+        if b == b',' {
+            return Known {
+                value,
+                next: a + i + 1,
+            };
+        }
         value = value * 10 + usize::from(b - b'0');
     }
     Known {
         value,
-        next: end + 1,
+        next: s.len() + 1,
     }
 }
 

@@ -1,8 +1,7 @@
--- `known_number` meets its contract: the digits before the index have the value, and those from it on are still to be read.
-use mathlib.Core.Path.{◌≡◌}
-use lib.ListN.{drop}
-use Rattle.decimals.specs.Number.{value_from}
+-- `known_number` meets its contract: the digits up to the place a + i have the value, and those behind it are still to be read.
+use Rattle.std.proofs.Common.{◌+◌}
+use Rattle.accepted_lines.proofs.KnownValues.{Reading}
 use Rattle.accepted_lines.proofs.values.known_number.Given as goal
 
-abbrev pub invariant-loop-b : goal.invariant-loop-b
-invariant-loop-b l = value_from 0 l.b-items ≡ value_from l.value (drop l.b-index l.b-items)
+abbrev pub invariant-loop-i : goal.invariant-loop-i
+invariant-loop-i l = Reading l.s l.a l.value (l.a + l.i)

@@ -101,14 +101,20 @@ module _ {w : ℕ} (some_bits : 0 < w) where
 
   -- a number of w bits: ETX, a byte of a text, or neither
   module _ (plate : List ℕ) (bit c : ℕ) {q : Place} (e : got c q ≡ number w (place_at plate bit)) where
+    pub character-is : (eqb c ETX || text_byte c) ≡ true → got c q ≡ character w (place_at plate bit)
+    character-is h = judged-got (number w) _ Spelling plate bit e h
+
+    pub character-not : (eqb c ETX || text_byte c) ≡ false → stopped Spelling bit ≡ character w (place_at plate bit)
+    character-not h = judged-not (number w) _ Spelling plate bit e h
+
     pub character-end : c ≡ 3 → got c q ≡ character w (place_at plate bit)
-    character-end h = judged-got (number w) _ Spelling plate bit e (rw (eq-eqb c 3 h))
+    character-end h = character-is (rw (eq-eqb c 3 h))
 
     pub character-text : (c ≡ 3 → ⊥) → text_byte c ≡ true → got c q ≡ character w (place_at plate bit)
-    character-text h t = judged-got (number w) _ Spelling plate bit e (rw (ne_eqb c 3 h) t)
+    character-text h t = character-is (rw (ne_eqb c 3 h) t)
 
     pub character-wrong : (c ≡ 3 → ⊥) → text_byte c ≡ false → stopped Spelling bit ≡ character w (place_at plate bit)
-    character-wrong h t = judged-not (number w) _ Spelling plate bit e (rw (ne_eqb c 3 h) t)
+    character-wrong h t = character-not (rw (ne_eqb c 3 h) t)
 
   -- ---- up to ETX
 

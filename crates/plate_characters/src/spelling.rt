@@ -13,11 +13,14 @@ use fields::{Field, read_plain};
 fn is_text_byte(code: usize) -> bool
     ensures { result ≡ text_byte code }
 {
-    32 <= code && code != 127 && code != 44
+    match code {
+        0..=31 | 44 | 127 => false,
+        _ => true,
+    }
 }
 
 // Whether a number is ETX or a byte of a text.
-fn is_character(code: usize) -> bool
+pub fn is_character(code: usize) -> bool
     ensures { result ≡ (eqb code ETX || text_byte code) }
 {
     code == 3 || is_text_byte(code)

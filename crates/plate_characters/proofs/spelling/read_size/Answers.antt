@@ -1,7 +1,7 @@
 -- `read_size` meets its contract. The loops' invariant: the characters passed and those behind them are the whole text. The inner loop also
 -- knows the bits that are left of the eight characters. The measures are the bits that are left, and the characters left of the eight.
-use Prim.Native.Nat.{◌<◌}
-use mathlib.Core.Path.{sym, ◌∙◌}
+use Prim.Native.Nat.{◌+◌, ◌*◌, ◌<◌}
+use mathlib.Core.Path.{◌≡◌, sym, ◌∙◌}
 use native.Mathlib.Omega.{arith}
 use Rattle.fields.specs.Places.{size_read}
 use Rattle.fields.proofs.Exits.{handed-on}
@@ -38,10 +38,10 @@ pub loop-eight-preserved : goal.loop-eight-preserved
 loop-eight-preserved c = c.loop.invariant.0
 
 pub returns-then-code-eq3 : goal.returns-then-code-eq3
-returns-then-code-eq3 c = so-far-ended some_bits c.loop.invariant.0.text _ _ (character-end some_bits _ _ _ (left-number c.loop.invariant.1 (omega arith)) c.if-code-eq3.true) c.if-code-eq3.true
+returns-then-code-eq3 c = so-far-ended some_bits c.loop.invariant.0.text _ _ (character-end some_bits _ _ _ (left-number 7 c.loop.invariant.1 (omega arith)) c.if-code-eq3.true) c.if-code-eq3.true
 
 pub returns-then-not-is_text_byte : goal.returns-then-not-is_text_byte
-returns-then-not-is_text_byte c = let e = left-number c.loop.invariant.1 (omega arith) in
+returns-then-not-is_text_byte c = let e = left-number 7 c.loop.invariant.1 (omega arith) in
     let wrong = sym c.is_text_byte.ensures ∙ c.if-not-is_text_byte.true in
     so-far-stopped some_bits c.loop.invariant.0.text (character-wrong some_bits _ _ _ e c.if-code-eq3.false wrong)
 
@@ -50,5 +50,9 @@ overflow_add-size c = omega (arith, c.loop.invariant.0.place, c.loop.invariant.1
 
 pub loop-preserved : goal.loop-preserved
 loop-preserved c = let plain = sym c.is_text_byte.ensures ∙ c.if-not-is_text_byte.false in
-    let e = character-text some_bits _ _ _ (left-number c.loop.invariant.1 (omega arith)) c.if-code-eq3.false plain in
-    (size-more some_bits c.loop.invariant.0 _ _ e c.if-code-eq3.false, left-more c.loop.invariant.1 (omega arith), omega arith)
+    let e = character-text some_bits _ _ _ (left-number 7 c.loop.invariant.1 (omega arith)) c.if-code-eq3.false plain in
+    let more : (c.loop.counter + 1) * 7 ≡ c.loop.counter * 7 + 7 = omega arith in (
+      size-more some_bits c.loop.invariant.0 _ _ e c.if-code-eq3.false,
+      rw more (left-more 7 c.loop.invariant.1 (omega arith)),
+      omega arith,
+    )

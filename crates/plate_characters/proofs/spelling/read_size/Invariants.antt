@@ -8,7 +8,7 @@ use Rattle.plate_characters.proofs.Cuts.{Left}
 use Rattle.plate_characters.proofs.spelling.read_size.Given as goal
 
 abbrev pub invariant-loop : goal.invariant-loop
-invariant-loop l = SizeSoFar 7 l.plate l.at l.size l.bit × Left l.plate l.bit l.left l.counter × (l.bit ≡ l.initial.bit + l.counter * 7)
+invariant-loop l = SizeSoFar 7 l.plate l.at l.size l.bit × Left l.plate l.bit l.left (l.counter * 7) × (l.bit ≡ l.initial.bit + l.counter * 7)
 
 abbrev pub invariant-loop-eight : goal.invariant-loop-eight
 invariant-loop-eight l = SizeSoFar 7 l.plate l.at l.size l.bit

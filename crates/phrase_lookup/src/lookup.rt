@@ -8,7 +8,7 @@ ghost use Rattle.phrases.specs.Own.{OwnAt, OwnNumbers, Listed};
 ghost use Rattle.phrase_lookup.specs.Found.{Has, phrase_at};
 
 use crate::own::{find_own, own_at};
-use phrases::{Found, count_of, find_keyed, key_of, text_of};
+use phrases::{Found, find_keyed, key_of, text_of};
 use std::marker::Model;
 
 // A phrase book, of which there is an index, and own phrases, which are the first `count` lines of `own`; their numbers stand behind the index.
@@ -47,7 +47,7 @@ impl<'a> Lookup<'a> {
         ensures value { result ≡ length self.now.book }
         ensures upper_bound { result ≤ most_phrases }
     {
-        count_of(self.index)
+        self.index[0] as usize
     }
 
     // How many own phrases there are.

@@ -21,7 +21,7 @@ fn number_of(index: &[u32], k: usize) -> usize
     requires { entries_at + get_or index.now 0 0 + k < length index.now }
     ensures { result ≡ get_or index.now (entries_at + get_or index.now 0 0 + k) 0 }
 {
-    index[ENTRIES_AT + count_of(index) + k] as usize
+    index[ENTRIES_AT + index[0] as usize + k] as usize
 }
 
 // Own phrase k, which stands where its number says.

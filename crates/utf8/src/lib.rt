@@ -2,7 +2,7 @@
 // The functions take any content of any length, and each contract says the whole answer by a definition of specs/.
 #![tactic(auto)]
 
-ghost use Rattle.std.specs.Prelude.{◌≡◌, List, ◌∷◌, ℕ, Some};
+ghost use Rattle.std.specs.Prelude.{◌≡◌, List, ◌∷◌, ℕ};
 ghost use Rattle.text.specs.Parts.{all};
 ghost use Rattle.text.specs.Utf8.{letters, begins, letters_behind, well_formed, ascii};
 ghost use Rattle.utf8.specs.Due.{due_of, step_of, on_step};
@@ -15,49 +15,25 @@ pub struct Due {
     pub most: u8,
 }
 
-// So many bytes due, the next one in this range.
-fn awaiting(count: usize, least: u8, most: u8) -> Option<Due>
-    ensures { result ≡ Some (record { count = count; least = least; most = most }) }
-{
-    Some(Due { count, least, most })
-}
-
-// What a letter's first byte calls for; none where no letter begins so. Ifs, not one `match` over the table: that is made into a jump for each
-// letter, and took a quarter more time on letters beyond ASCII.
+// What a letter's first byte calls for; none where no letter begins so. A row takes the bytes up to its last that no row above it took: with
+// ranges alone the rows are made into a jump for each letter, which took a quarter more time on letters beyond ASCII.
 fn begin(b: u8) -> Option<Due>
     ensures { begins letters b ≡ step_of result }
 {
-    if b < 0x80 {
-        return awaiting(0, 0x80, 0xBF);
-    }
-    if b < 0xC2 {
-        return None;
-    }
-    if b < 0xE0 {
-        return awaiting(1, 0x80, 0xBF);
-    }
-    if b == 0xE0 {
-        return awaiting(2, 0xA0, 0xBF);
-    }
-    if b < 0xED {
-        return awaiting(2, 0x80, 0xBF);
-    }
-    if b == 0xED {
-        return awaiting(2, 0x80, 0x9F);
-    }
-    if b < 0xF0 {
-        return awaiting(2, 0x80, 0xBF);
-    }
-    if b == 0xF0 {
-        return awaiting(3, 0x90, 0xBF);
-    }
-    if b < 0xF4 {
-        return awaiting(3, 0x80, 0xBF);
-    }
-    if b == 0xF4 {
-        return awaiting(3, 0x80, 0x8F);
-    }
-    None
+    let (count, least, most) = match b {
+        b if b <= 0x7F => (0, 0x80, 0xBF),
+        b if b <= 0xC1 => return None,
+        b if b <= 0xDF => (1, 0x80, 0xBF),
+        0xE0 => (2, 0xA0, 0xBF),
+        b if b <= 0xEC => (2, 0x80, 0xBF),
+        0xED => (2, 0x80, 0x9F),
+        b if b <= 0xEF => (2, 0x80, 0xBF),
+        0xF0 => (3, 0x90, 0xBF),
+        b if b <= 0xF3 => (3, 0x80, 0xBF),
+        0xF4 => (3, 0x80, 0x8F),
+        _ => return None,
+    };
+    Some(Due { count, least, most })
 }
 
 // What is due behind the byte b; none where it may not stand there.

@@ -133,7 +133,7 @@ module _ {s : List ℕ} {a : ℕ} {fs : List (List ℕ)} {op : Op} (k : Operator
 
 -- ---- digits
 
-value_grows : (n : ℕ) (s : List ℕ) → n ≤ value_from n s
+pub value_grows : (n : ℕ) (s : List ℕ) → n ≤ value_from n s
 unfolding value_from
 value_grows n [] = omega arith
 value_grows n (b ∷ s) = let l = value_grows (n * 10 + (b - 48)) s in omega arith

@@ -27,10 +27,19 @@ module _ (w v : ℕ) where
       let low : s % 2 ≡ s = omega arith in
       rw (← phrase-code) (rw (wide, low) at (bits-behind (w + 2) 1 (v * 4 + 2) s))
 
+-- a number below 2048 and at most m bits behind it, as one number
+behind-most : (k m : ℕ) → k ≤ m → (v i : ℕ) → v < 2048 → v * 2 ^ k + i % 2 ^ k < 2048 * 2 ^ m
+behind-most k m h v i l = lt_of_lt_of_le (digits_lt l (mod-lt i (pow_pos k))) (mul-le-mul_left 2048 (pow_mono {i = k} {j = m} h))
+
 -- k bits behind a number: the power of two as a shift makes it, and the number of both
 module _ (k : ℕ) (h : k ≤ 45) where
   pub unit-is : (1 * 2 ^ k) % 2 ^ 64 ≡ 2 ^ k
   unit-is = shl_exact 1 k 64 (omega arith) (omega arith) ∙ one-mul (2 ^ k)
 
-  pub behind-below : (v i : ℕ) → v < 2048 → v * 2 ^ k + i % 2 ^ k < 72057594037927936
-  behind-below v i l = lt_of_lt_of_le (digits_lt l (mod-lt i (pow_pos k))) (mul-le-mul_left 2048 (pow_mono {i = k} {j = 45} h))
+  pub behind-wide : (v i : ℕ) → v < 2048 → v * 2 ^ k + i % 2 ^ k < 72057594037927936
+  behind-wide = behind-most k 45 h
+
+-- the same of the few bits of a phrase's place
+module _ (k : ℕ) (h : k ≤ 16) where
+  pub behind-below : (v i : ℕ) → v < 2048 → v * 2 ^ k + i % 2 ^ k < 134217728
+  behind-below = behind-most k 16 h

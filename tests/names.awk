@@ -128,7 +128,7 @@ function between(text,   words, n, i, file) {
     for (i = 1; i <= n; i++) {
         if (!table)
             context = ""
-        look_up(words[i], 0)
+        look_up(i > 1 && words[i] ~ /^src\// && words[i - 1] in below ? words[i - 1] "/" words[i] : words[i], 0)
     }
 }
 

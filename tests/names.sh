@@ -8,6 +8,7 @@
 #   crates/crate/out/..   what rt makes there: that there is such a crate
 #   crate/label       a must-fail edit; the names in the cells behind it are the crate's
 #   crate::function   a function of the crate; in the README of model/ or harness/, of tests/crate.rs or src/crate.rs there
+#   crate, src/FILE   the file in the crate
 #   a path, or a file's name with its ending: from the top, from the document's folder or its src/, or below crates/
 # Left out: docs/LANDINGS.md, docs/PORT.md and docs/DESIGN-PASS.md, which give names of before; target/ and out/; words in capitals, as NAME.edit.
 set -u
